@@ -6,6 +6,7 @@ use Rattle.std.proofs.lemmas.Bool.{cases_eq}
 use Rattle.std.proofs.lemmas.List.{append-nil, length-append}
 use Rattle.std.proofs.lemmas.List.Elements.{Contains-append_cases, Contains-append_left, Contains-append_right}
 use Rattle.raft_node.specs.declared.act.Act.TheVariants.{Restart}
+use Rattle.raft_codec.specs.Codec.{Codec, IsCodec}
 use Rattle.raft_node.specs.declared.given.Given.{Given}
 use Rattle.raft_answers.specs.declared.answer.Answer.{Answer}
 use Rattle.raft_answers.specs.declared.answer.Answer.TheVariants.{Failed, NotLeader, Ok, Unknown}
@@ -13,7 +14,11 @@ use Rattle.raft_answers.specs.declared.answer.Reply.{Reply}
 use Rattle.raft_answers.specs.declared.request.Operation.{Operation}
 use Rattle.raft_answers.specs.declared.request.Operation.TheVariants.{Read}
 use Rattle.raft_answers.specs.declared.request.Token.{Token}
-use Rattle.raft_server.specs.Represents.{Represents}
+use Rattle.proof_packed.specs.Stores.{Application}
+use Rattle.raft_core.specs.proof_packed_servers.Servers.{PackedServer, server_packed}
+use Rattle.raft_core.specs.raft_packed_server.Laws.{cut_file}
+use Rattle.raft_core.specs.raft_packed_server.Represents.{Represents}
+use Rattle.raft_core.proofs.raft_packed_server_proofs.Crashed.{opens_after_cuts}
 use Rattle.raft_core.specs.declared.output.Output.{Output}
 use Rattle.raft_core.specs.Calls.{Admits, AdmitsRead}
 use Rattle.raft_core.specs.Laws.{read_replies_of, replies_of}
@@ -21,8 +26,6 @@ use Rattle.raft_core.specs.Views.{CoreView}
 use Rattle.proof_clients.proofs.Sequences.{each_of, element}
 use Rattle.proof_clients.proofs.Slots.{slot_below}
 use Rattle.proof_servers.specs.Servers.{Action, AllMayAct, Crashes, Flushes, Server, Takes, after_actions, new_cluster}
-use Rattle.raft_server.proofs.Crashed.{opens_after_cuts}
-use Rattle.proof_logs.specs.Laws.{cut_file}
 use Rattle.proof_requests.specs.Answered.{IsAnswered, IsTrue}
 use Rattle.proof_requests.specs.Clients.{AnswerFirst, AreBeside, AreOver, AreTwoRequests, Cores, Exchange, IsOpen, IsOver, WasTold, StaysByReading, StaysByStart, WasWritten, after_call, after_end, after_read, after_request, answered_with, no_cores, unanswered, with_one}
 use Rattle.proof_requests.specs.Frames.{IsSent, frames_of}
@@ -41,11 +44,12 @@ use Rattle.proof_requests.proofs.Reading.{done_more}
 use Rattle.proof_requests.proofs.ReadsKept.{admits_read}
 use Rattle.proof_requests.proofs.Sent.{sent_on}
 
-some_same : {A : Type 0} (a b : A) → ◌≡◌ {A = Option A} (Some a) (Some b) → a ≡ b
+pub some_same : {A : Type 0} (a b : A) → ◌≡◌ {A = Option A} (Some a) (Some b) → a ≡ b
 some_same a b e = cc
 
 -- an exchange of what was open is another one than those that are over
-two_by_open : (given : Given) (actions : List Action) (placed : List Placed) (s : Cores) (e f : Exchange) → IsOver given actions placed s e → IsOpen s f.server f.asked → AreTwoRequests e f
+two_by_open : {S : Type 0} (given : Given) (actions : List Action) (placed : List Placed) (s : Cores S) (e f : Exchange)
+    → IsOver given actions placed s e → IsOpen s f.server f.asked → AreTwoRequests e f
 two_by_open given actions placed s e f o c =
     ⊎_elim
     (λ (q : e.server ≡ f.server). inr (o.apart f.asked (subst (λ (i : ℕ). IsOpen s i f.asked) (sym q) c)))
@@ -53,7 +57,9 @@ two_by_open given actions placed s e f o c =
     (cases_eq e.server f.server)
 
 -- More actions of one server, which proposed values for its open requests
-module _ (given : Given) (actions : List Action) (placed : List Placed) (s : Cores) (h : AreBeside given actions placed s) (id : ℕ) (took : List Action) (own : AllByRecursion (Concerns id) took) (more : List Placed)
+module _ {S : Type 0} (app : Application S) (codec : Codec S) (given : Given) (actions : List Action) (placed : List Placed)
+    (s : Cores S) (h : AreBeside app codec given actions placed s) (id : ℕ) (took : List Action) (own : AllByRecursion (Concerns id) took)
+    (more : List Placed)
     (rows : (w : Placed) (by : ℕ × ℕ) → Contains more w → w.by ≡ Some by → (a : Asked) × Contains (s.open_at id) a × (by ≡ (id, a.number)) × Wrote a w.value × (a.came ≤ w.call)) where
   abbrev after : List Action
   after = actions ++ took
@@ -71,7 +77,8 @@ module _ (given : Given) (actions : List Action) (placed : List Placed) (s : Cor
       (λ y. let z = rows w (other, n) y e in absurd (d (ap (λ (x : ℕ × ℕ). x.0) z.2)))
       (Contains-append_cases placed more w c)
 
-  pub other_core : (other : ℕ) (v : CoreView) → other ≢ id → IsCore given actions placed other v (s.open_at other) → IsCore given after placed' other v (s.open_at other)
+  pub other_core : (other : ℕ) (v : CoreView S) → other ≢ id → IsCore app given actions placed other v (s.open_at other)
+      → IsCore app given after placed' other v (s.open_at other)
   other_core other v d core =
       let quiet : NoCrash other took = no_crash_of given id other d took own in
       let o = core.open_are in
@@ -79,7 +86,7 @@ module _ (given : Given) (actions : List Action) (placed : List Placed) (s : Cor
         member = core.member;
         own = core.own;
         given_is = core.given_is;
-        stands = subst (λ (x : Server). Represents x v.server) (sym (server_still given id other d actions took own)) core.stands;
+        stands = subst (λ (x : Server). Represents (server_packed app x) v.server) (sym (server_still given id other d actions took own)) core.stands;
         open_are = record {
           proposed = o.proposed;
           waiting = o.waiting;
@@ -142,7 +149,8 @@ module _ (given : Given) (actions : List Action) (placed : List Placed) (s : Cor
   told_on e o Unknown t = tt
 
   -- requests that are over stay so, if what is open then was open before, or is new
-  pub over_on : (t : Cores) → ((i : ℕ) → s.next i ≤ t.next i) → ((i : ℕ) (a : Asked) → IsOpen t i a → IsOpen s i a ⊎ (s.next i ≤ a.number)) → (e : Exchange) → IsOver given actions placed s e
+  pub over_on : (t : Cores S) → ((i : ℕ) → s.next i ≤ t.next i) → ((i : ℕ) (a : Asked) → IsOpen t i a → IsOpen s i a ⊎ (s.next i ≤ a.number))
+      → (e : Exchange) → IsOver given actions placed s e
       → IsOver given after placed' t e
   over_on t up back e o = record {
     below = (let l = o.below in let u = up e.server in omega (arith, l, u));
@@ -152,7 +160,7 @@ module _ (given : Given) (actions : List Action) (placed : List Placed) (s : Cor
   }
 
   -- each value is of a request that is still open, or over now
-  pub values_on : (t : Cores) → ((e : Exchange) → Contains s.done e → Contains t.done e)
+  pub values_on : (t : Cores S) → ((e : Exchange) → Contains s.done e → Contains t.done e)
       → ((i : ℕ) (a : Asked) → Contains (s.open_at i) a → Contains (t.open_at i) a ⊎ ((e : Exchange) × Contains t.done e × (e.server ≡ i) × (e.asked ≡ a)))
       → (w : Placed) (i n : ℕ) → Contains placed' w → w.by ≡ Some (i, n) → WasWritten t i n w.call w.value
   values_on t keeps goes w i n c e =
@@ -172,8 +180,9 @@ module _ (given : Given) (actions : List Action) (placed : List Placed) (s : Cor
       (Contains-append_cases placed more w c)
 
 -- the numbers of values are below the next one
-value_below : (given : Given) (actions : List Action) (placed : List Placed) (s : Cores) → AreBeside given actions placed s → (w : Placed) (i n : ℕ) → Contains placed w → w.by ≡ Some (i, n) → n < s.next i
-value_below given actions placed s h w i n c e =
+value_below : {S : Type 0} (app : Application S) (codec : Codec S) (given : Given) (actions : List Action) (placed : List Placed) (s : Cores S)
+    → AreBeside app codec given actions placed s → (w : Placed) (i n : ℕ) → Contains placed w → w.by ≡ Some (i, n) → n < s.next i
+value_below app codec given actions placed s h w i n c e =
     let z = h.values w i n c e in
     let q : z.asked.number ≡ n = z.number_is in
     ⊎_elim
@@ -185,15 +194,18 @@ value_below given actions placed s h w i n c e =
     z.there
 
 -- what was sent stays so
-still_sent : (given : Given) (actions took : List Action) (fs : List (List ℕ)) → AllByRecursion (IsSent (after_actions given actions (new_cluster given)).released.bag) fs
-    → AllByRecursion (IsSent (after_actions given (actions ++ took) (new_cluster given)).released.bag) fs
-still_sent given actions took fs a =
-    each_of (IsSent (after_actions given actions (new_cluster given)).released.bag) (IsSent (after_actions given (actions ++ took) (new_cluster given)).released.bag)
-    (λ bytes z. sent_on (after_actions given actions (new_cluster given)).released.bag (after_actions given (actions ++ took) (new_cluster given)).released.bag (λ m c. bag_more given actions took m c) bytes z) fs a
+still_sent : {S : Type 0} (app : Application S) (codec : Codec S) (given : Given) (actions took : List Action) (fs : List (List ℕ))
+    → AllByRecursion (IsSent app codec (after_actions given actions (new_cluster given)).released.bag) fs
+    → AllByRecursion (IsSent app codec (after_actions given (actions ++ took) (new_cluster given)).released.bag) fs
+still_sent app codec given actions took fs a =
+    each_of (IsSent app codec (after_actions given actions (new_cluster given)).released.bag)
+    (IsSent app codec (after_actions given (actions ++ took) (new_cluster given)).released.bag)
+    (λ bytes z. sent_on app codec (after_actions given actions (new_cluster given)).released.bag
+    (after_actions given (actions ++ took) (new_cluster given)).released.bag (λ m c. bag_more given actions took m c) bytes z) fs a
 
 -- no requests, and no actions
-pub beside_first : (given : Given) → AreBeside given [] [] no_cores
-beside_first given = record {
+pub beside_first : {S : Type 0} (app : Application S) (codec : Codec S) (given : Given) → AreBeside app codec given [] [] no_cores
+beside_first app codec given = record {
   may = tt;
   placed_are = record { each = tt; all = λ call v x p. absurd (slot_none call (Takes x.log_id.leader_id.node_id p.step) p.takes); once = tt; single = tt; markers = tt };
   running = λ id v e. cc;
@@ -211,8 +223,9 @@ beside_first given = record {
 }
 
 -- a call
-module _ (given : Given) (actions : List Action) (placed : List Placed) (s : Cores) (h : AreBeside given actions placed s) (id : ℕ) (new : CoreView) (out : List Output) (took : List Action)
-    (k : Keeps given actions placed id (s.open_at id) out new took) (r : KeepsReads given actions id (s.reads_at id) out new took) where
+module _ {S : Type 0} (app : Application S) (codec : Codec S) (given : Given) (actions : List Action) (placed : List Placed)
+    (s : Cores S) (h : AreBeside app codec given actions placed s) (id : ℕ) (new : CoreView S) (out : List (Output S)) (took : List Action)
+    (k : Keeps app codec given actions placed id (s.open_at id) out new took) (r : KeepsReads given actions id (s.reads_at id) out new took) where
   abbrev now : List Action
   now = actions ++ took
 
@@ -222,7 +235,7 @@ module _ (given : Given) (actions : List Action) (placed : List Placed) (s : Cor
   abbrev told_at : ℕ
   told_at = length now
 
-  abbrev next_cores : Cores
+  abbrev next_cores : Cores S
   next_cores = after_call id out new told_at s
 
   abbrev P : Asked → Reply → Type 0
@@ -315,7 +328,8 @@ module _ (given : Given) (actions : List Action) (placed : List Placed) (s : Cor
       }
     where
       failed : Contains (s.reads_at id) e.asked → e.server ≡ id → (w : Placed) → Contains placed_now w → w.by ≡ Some (e.server, e.asked.number) → ⊥
-      failed was q w m y = read_row given actions placed s h id took own_all k.more k.of_asked e.server e.asked (subst (λ (j : ℕ). Contains (s.reads_at j) e.asked) (sym q) was) w m y
+      failed was q w m y = read_row app codec given actions placed s h id took own_all k.more k.of_asked e.server e.asked
+          (subst (λ (j : ℕ). Contains (s.reads_at j) e.asked) (sym q) was) w m y
 
       told : Contains (s.reads_at id) e.asked → e.server ≡ id → (x : Answer) → IsReadTrue given now e.server e.asked x → e.told ≡ told_at → WasTold given now placed_now e x
       told was i (Ok index) d q = inr (h.are_reads id e.asked was, d.0, (let l = d.1 in omega (arith, l, q)))
@@ -335,7 +349,7 @@ module _ (given : Given) (actions : List Action) (placed : List Placed) (s : Cor
       (λ y. inr (subst (λ (j : ℕ). Contains (s.reads_at j) f.asked) (sym (tells_of id told_at Q s.reads_at qs reads f y).server) (was_open id told_at Q s.reads_at qs reads f y)))
       (Contains-append_cases fresh fresh_reads f c)
 
-  pub beside_call : AreBeside given now placed_now next_cores
+  pub beside_call : AreBeside app codec given now placed_now next_cores
   beside_call = record {
     may = k.may;
     placed_are = k.placed_are;
@@ -343,12 +357,13 @@ module _ (given : Given) (actions : List Action) (placed : List Placed) (s : Cor
         ⊎_elim
         (λ (q : i ≡ id).
         let same : new ≡ v = some_same new v (sym (one_own id (Some new) s.cores) ∙ subst (λ (j : ℕ). next_cores.cores j ≡ Some v) q e) in
-        subst (λ (j : ℕ). IsCore given now placed_now j v (next_cores.open_at j)) (sym q)
-        (subst (IsCore given now placed_now id v) (sym (own_left id told_at P s.open_at rs requests))
-        (subst (λ (x : CoreView). IsCore given now placed_now id x k.left) same k.core)))
+        subst (λ (j : ℕ). IsCore app given now placed_now j v (next_cores.open_at j)) (sym q)
+        (subst (IsCore app given now placed_now id v) (sym (own_left id told_at P s.open_at rs requests))
+        (subst (λ (x : CoreView S). IsCore app given now placed_now id x k.left) same k.core)))
         (λ d.
-        subst (IsCore given now placed_now i v) (sym (one_other id i _ s.open_at d))
-        (other_core given actions placed s h id took own_all k.more k.of_asked i v d (h.running i v (sym (one_other id i (Some new) s.cores d) ∙ e))))
+        subst (IsCore app given now placed_now i v) (sym (one_other id i _ s.open_at d))
+        (other_core app codec given actions placed s h id took own_all k.more k.of_asked i v d
+        (h.running i v (sym (one_other id i (Some new) s.cores d) ∙ e))))
         (cases_eq i id);
     reading = λ i v e.
         ⊎_elim
@@ -356,7 +371,7 @@ module _ (given : Given) (actions : List Action) (placed : List Placed) (s : Cor
         let same : new ≡ v = some_same new v (sym (one_own id (Some new) s.cores) ∙ subst (λ (j : ℕ). next_cores.cores j ≡ Some v) q e) in
         subst (λ (j : ℕ). IsReader given now j v (next_cores.reads_at j)) (sym q)
         (subst (IsReader given now id v) (sym (own_left id told_at Q s.reads_at qs reads))
-        (subst (λ (x : CoreView). IsReader given now id x r.left) same r.reader)))
+        (subst (λ (x : CoreView S). IsReader given now id x r.left) same r.reader)))
         (λ d.
         subst (IsReader given now i v) (sym (one_other id i _ s.reads_at d))
         (reader_other given id i d actions took own_all v (s.reads_at i) (h.reading i v (sym (one_other id i (Some new) s.cores d) ∙ e))))
@@ -371,16 +386,19 @@ module _ (given : Given) (actions : List Action) (placed : List Placed) (s : Cor
     reads_rise = queues_rise id told_at Q s.reads_at qs reads h.reads_rise;
     are_reads = λ i a c. h.are_reads i a (was_read i a c);
     apart = λ i a b c d. h.apart i a b (was_request i a c) (was_read i b d);
-    values = λ w i n c e. values_on given actions placed s h id took own_all k.more k.of_asked next_cores (λ x y. Contains-append_left s.done (fresh ++ fresh_reads) x y) goes w i n c e;
+    values = λ w i n c e. values_on app codec given actions placed s h id took own_all k.more k.of_asked next_cores
+        (λ x y. Contains-append_left s.done (fresh ++ fresh_reads) x y) goes w i n c e;
     over = all_append (IsOver given now placed_now next_cores) s.done (fresh ++ fresh_reads)
         (each_of (IsOver given actions placed s) (IsOver given now placed_now next_cores)
-        (λ e o. over_on given actions placed s h id took own_all k.more k.of_asked next_cores (λ i. omega arith) (λ i a c. inl (back i a c)) e o) s.done h.over)
+        (λ e o. over_on app codec given actions placed s h id took own_all k.more k.of_asked next_cores (λ i. omega arith) (λ i a c. inl (back i a c))
+        e o) s.done h.over)
         (all_append (IsOver given now placed_now next_cores) fresh fresh_reads
         (all_in (IsOver given now placed_now next_cores) fresh fresh_over)
         (all_in (IsOver given now placed_now next_cores) fresh_reads read_over));
     once = over_once s.done (fresh ++ fresh_reads) h.once once_now
         (λ e f c d. two_by_open given actions placed s e f (element (IsOver given actions placed s) s.done e h.over c) (is_open f d));
-    frames = all_append (IsSent (after_actions given now (new_cluster given)).released.bag) s.sent (frames_of out) (still_sent given actions took s.sent h.frames) k.frames;
+    frames = all_append (IsSent app codec (after_actions given now (new_cluster given)).released.bag) s.sent (frames_of out)
+        (still_sent app codec given actions took s.sent h.frames) k.frames;
   }
 
   -- its replies answer the first requests
@@ -394,7 +412,7 @@ module _ (given : Given) (actions : List Action) (placed : List Placed) (s : Cor
 -- One more is taken
 
 -- numbers go up
-module _ (s : Cores) (id : ℕ) where
+module _ {S : Type 0} (s : Cores S) (id : ℕ) where
   abbrev next_up : ℕ → ℕ
   next_up = with_one id (s.next id + 1) s.next
 
@@ -409,33 +427,39 @@ module _ (s : Cores) (id : ℕ) where
   above i n q e = subst (λ (j : ℕ). n < next_up j) (sym q) (let u : next_up id ≡ s.next id + 1 = one_own id (s.next id + 1) s.next in omega (arith, e, u))
 
 -- a core that differs in its requests alone, or in its reads alone
-module _ (given : Given) (actions : List Action) (placed : List Placed) (id : ℕ) where
-  still_reader : (old new : CoreView) (token : Token) (operation : Operation) (reading : List Asked) → Admits token operation old new → IsReader given actions id old reading → IsReader given actions id new reading
+module _ {S : Type 0} (app : Application S) (given : Given) (actions : List Action) (placed : List Placed) (id : ℕ) where
+  still_reader : (old new : CoreView S) (token : Token) (operation : Operation) (reading : List Asked) → Admits token operation old new
+      → IsReader given actions id old reading → IsReader given actions id new reading
   still_reader old new token operation reading a x =
-      subst (λ (v : CoreView). IsReader given actions id v reading) (sym a) (record { bare = x.bare; handed = x.handed; pending_is = x.pending_is; reads = x.reads })
+      subst (λ (v : CoreView S). IsReader given actions id v reading) (sym a)
+      (record { bare = x.bare; handed = x.handed; pending_is = x.pending_is; reads = x.reads })
 
-  still_core : (old new : CoreView) (token : Token) (asked : List Asked) → AdmitsRead token old new → IsCore given actions placed id old asked → IsCore given actions placed id new asked
+  still_core : (old new : CoreView S) (token : Token) (asked : List Asked) → AdmitsRead token old new → IsCore app given actions placed id old asked
+      → IsCore app given actions placed id new asked
   still_core old new token asked a x =
-      subst (λ (v : CoreView). IsCore given actions placed id v asked) (sym a) (record { member = x.member; own = x.own; given_is = x.given_is; stands = x.stands; open_are = x.open_are })
+      subst (λ (v : CoreView S). IsCore app given actions placed id v asked) (sym a)
+      (record { member = x.member; own = x.own; given_is = x.given_is; stands = x.stands; open_are = x.open_are })
 
 -- a request
-module _ (given : Given) (actions : List Action) (placed : List Placed) (s : Cores) (h : AreBeside given actions placed s) (id : ℕ) (old new : CoreView) (token : Token) (operation : Operation)
+module _ {S : Type 0} (app : Application S) (codec : Codec S) (given : Given) (actions : List Action) (placed : List Placed)
+    (s : Cores S) (h : AreBeside app codec given actions placed s) (id : ℕ) (old new : CoreView S) (token : Token) (operation : Operation)
     (runs : s.cores id ≡ Some old) (admitted : Admits token operation old new) where
   abbrev one : Asked
   one = record { number = s.next id; token = token; operation = operation; came = length actions }
 
-  abbrev with_request : Cores
+  abbrev with_request : Cores S
   with_request = after_request id token operation new (length actions) s
 
-  core_now : IsCore given actions placed id new (s.open_at id ++ one ∷ [])
-  core_now = admits given actions placed id (s.open_at id) old new token operation (s.next id) (h.running id old runs) admitted (λ a c. h.numbers id a (inl c)) (λ w n c e. value_below given actions placed s h w id n c e)
+  core_now : IsCore app given actions placed id new (s.open_at id ++ one ∷ [])
+  core_now = admits app given actions placed id (s.open_at id) old new token operation (s.next id) (h.running id old runs) admitted
+      (λ a c. h.numbers id a (inl c)) (λ w n c e. value_below app codec given actions placed s h w id n c e)
 
   -- what is open was so before, or is this request
   request_was : (i : ℕ) (a : Asked) → IsOpen with_request i a → IsOpen s i a ⊎ ((i ≡ id) × (a.number ≡ s.next id))
   request_was i a (inl c) = ⊎_elim (λ y. inl (inl y)) (λ y. inr (y.0, ap (λ (b : Asked). b.number) y.1)) (was_or_one id s.open_at one i a c)
   request_was i a (inr c) = inl (inr c)
 
-  pub beside_request : AreBeside given actions placed with_request
+  pub beside_request : AreBeside app codec given actions placed with_request
   beside_request = record {
     may = h.may;
     placed_are = h.placed_are;
@@ -443,17 +467,19 @@ module _ (given : Given) (actions : List Action) (placed : List Placed) (s : Cor
         ⊎_elim
         (λ (q : i ≡ id).
         let same : new ≡ v = some_same new v (sym (one_own id (Some new) s.cores) ∙ subst (λ (j : ℕ). with_request.cores j ≡ Some v) q e) in
-        subst (λ (j : ℕ). IsCore given actions placed j v (with_request.open_at j)) (sym q)
-        (subst (IsCore given actions placed id v) (sym (one_own id (s.open_at id ++ one ∷ []) s.open_at))
-        (subst (λ (x : CoreView). IsCore given actions placed id x (s.open_at id ++ one ∷ [])) same core_now)))
-        (λ d. subst (IsCore given actions placed i v) (sym (one_other id i (s.open_at id ++ one ∷ []) s.open_at d)) (h.running i v (sym (one_other id i (Some new) s.cores d) ∙ e)))
+        subst (λ (j : ℕ). IsCore app given actions placed j v (with_request.open_at j)) (sym q)
+        (subst (IsCore app given actions placed id v) (sym (one_own id (s.open_at id ++ one ∷ []) s.open_at))
+        (subst (λ (x : CoreView S). IsCore app given actions placed id x (s.open_at id ++ one ∷ [])) same core_now)))
+        (λ d. subst (IsCore app given actions placed i v) (sym (one_other id i (s.open_at id ++ one ∷ []) s.open_at d))
+        (h.running i v (sym (one_other id i (Some new) s.cores d) ∙ e)))
         (cases_eq i id);
     reading = λ i v e.
         ⊎_elim
         (λ (q : i ≡ id).
         let same : new ≡ v = some_same new v (sym (one_own id (Some new) s.cores) ∙ subst (λ (j : ℕ). with_request.cores j ≡ Some v) q e) in
         subst (λ (j : ℕ). IsReader given actions j v (s.reads_at j)) (sym q)
-        (subst (λ (x : CoreView). IsReader given actions id x (s.reads_at id)) same (still_reader given actions placed id old new token operation (s.reads_at id) admitted (h.reading id old runs))))
+        (subst (λ (x : CoreView S). IsReader given actions id x (s.reads_at id)) same
+        (still_reader app given actions placed id old new token operation (s.reads_at id) admitted (h.reading id old runs))))
         (λ d. h.reading i v (sym (one_other id i (Some new) s.cores d) ∙ e))
         (cases_eq i id);
     bare = h.bare;
@@ -496,12 +522,13 @@ module _ (given : Given) (actions : List Action) (placed : List Placed) (s : Cor
   }
 
 -- a read that needs no entry
-module _ (given : Given) (actions : List Action) (placed : List Placed) (s : Cores) (h : AreBeside given actions placed s) (id : ℕ) (old new : CoreView) (token : Token)
+module _ {S : Type 0} (app : Application S) (codec : Codec S) (given : Given) (actions : List Action) (placed : List Placed)
+    (s : Cores S) (h : AreBeside app codec given actions placed s) (id : ℕ) (old new : CoreView S) (token : Token)
     (runs : s.cores id ≡ Some old) (admitted : AdmitsRead token old new) where
   abbrev one_read : Asked
   one_read = record { number = s.next id; token = token; operation = Read; came = length actions }
 
-  abbrev with_read : Cores
+  abbrev with_read : Cores S
   with_read = after_read id token new (length actions) s
 
   reader_now : IsReader given actions id new (s.reads_at id ++ one_read ∷ [])
@@ -511,7 +538,7 @@ module _ (given : Given) (actions : List Action) (placed : List Placed) (s : Cor
   read_was i a (inl c) = inl (inl c)
   read_was i a (inr c) = ⊎_elim (λ y. inl (inr y)) (λ y. inr (y.0, ap (λ (b : Asked). b.number) y.1)) (was_or_one id s.reads_at one_read i a c)
 
-  pub beside_read : AreBeside given actions placed with_read
+  pub beside_read : AreBeside app codec given actions placed with_read
   beside_read = record {
     may = h.may;
     placed_are = h.placed_are;
@@ -519,8 +546,9 @@ module _ (given : Given) (actions : List Action) (placed : List Placed) (s : Cor
         ⊎_elim
         (λ (q : i ≡ id).
         let same : new ≡ v = some_same new v (sym (one_own id (Some new) s.cores) ∙ subst (λ (j : ℕ). with_read.cores j ≡ Some v) q e) in
-        subst (λ (j : ℕ). IsCore given actions placed j v (s.open_at j)) (sym q)
-        (subst (λ (x : CoreView). IsCore given actions placed id x (s.open_at id)) same (still_core given actions placed id old new token (s.open_at id) admitted (h.running id old runs))))
+        subst (λ (j : ℕ). IsCore app given actions placed j v (s.open_at j)) (sym q)
+        (subst (λ (x : CoreView S). IsCore app given actions placed id x (s.open_at id)) same
+        (still_core app given actions placed id old new token (s.open_at id) admitted (h.running id old runs))))
         (λ d. h.running i v (sym (one_other id i (Some new) s.cores d) ∙ e))
         (cases_eq i id);
     reading = λ i v e.
@@ -529,7 +557,7 @@ module _ (given : Given) (actions : List Action) (placed : List Placed) (s : Cor
         let same : new ≡ v = some_same new v (sym (one_own id (Some new) s.cores) ∙ subst (λ (j : ℕ). with_read.cores j ≡ Some v) q e) in
         subst (λ (j : ℕ). IsReader given actions j v (with_read.reads_at j)) (sym q)
         (subst (IsReader given actions id v) (sym (one_own id (s.reads_at id ++ one_read ∷ []) s.reads_at))
-        (subst (λ (x : CoreView). IsReader given actions id x (s.reads_at id ++ one_read ∷ [])) same reader_now)))
+        (subst (λ (x : CoreView S). IsReader given actions id x (s.reads_at id ++ one_read ∷ [])) same reader_now)))
         (λ d. subst (IsReader given actions i v) (sym (one_other id i (s.reads_at id ++ one_read ∷ []) s.reads_at d)) (h.reading i v (sym (one_other id i (Some new) s.cores d) ∙ e)))
         (cases_eq i id);
     bare = h.bare;
@@ -574,10 +602,13 @@ module _ (given : Given) (actions : List Action) (placed : List Placed) (s : Cor
   }
 
 -- a server that ends, and starts again, or doesn't
-module _ (given : Given) (actions : List Action) (placed : List Placed) (s : Cores) (h : AreBeside given actions placed s) (id told : ℕ) (new : Option CoreView) (took : List Action) (own : AllByRecursion (Concerns id) took)
+module _ {S : Type 0} (app : Application S) (codec : Codec S) (given : Given) (actions : List Action) (placed : List Placed)
+    (s : Cores S) (h : AreBeside app codec given actions placed s) (id told : ℕ) (new : Option (CoreView S)) (took : List Action)
+    (own : AllByRecursion (Concerns id) took)
     (may : AllMayAct given (actions ++ took) (new_cluster given)) (placed_are : ArePlaced given (actions ++ took) (placed ++ [])) (bare : (i : ℕ) → StartsBare (actions ++ took) i) (early : told ≤ length (actions ++ took))
-    (is_core : (v : CoreView) → new ≡ Some v → IsCore given (actions ++ took) (placed ++ []) id v []) (is_reader : (v : CoreView) → new ≡ Some v → IsReader given (actions ++ took) id v []) where
-  abbrev ended : Cores
+    (is_core : (v : CoreView S) → new ≡ Some v → IsCore app given (actions ++ took) (placed ++ []) id v [])
+    (is_reader : (v : CoreView S) → new ≡ Some v → IsReader given (actions ++ took) id v []) where
+  abbrev ended : Cores S
   ended = after_end id new told s
 
   abbrev gone : List Exchange
@@ -628,19 +659,19 @@ module _ (given : Given) (actions : List Action) (placed : List Placed) (s : Cor
       over_once gone gone_reads (unanswered_once id told (s.open_at id) (h.rises id)) (unanswered_once id told (s.reads_at id) (h.reads_rise id))
       (λ e f c d. inr (h.apart id e.asked f.asked (unanswered_in id told (s.open_at id) e c).asked (unanswered_in id told (s.reads_at id) f d).asked))
 
-  beside_by_end : AreBeside given (actions ++ took) (placed ++ []) ended
+  beside_by_end : AreBeside app codec given (actions ++ took) (placed ++ []) ended
   beside_by_end = record {
     may = may;
     placed_are = placed_are;
     running = λ i v e.
         ⊎_elim
         (λ (q : i ≡ id).
-        subst (λ (j : ℕ). IsCore given (actions ++ took) (placed ++ []) j v (ended.open_at j)) (sym q)
-        (subst (IsCore given (actions ++ took) (placed ++ []) id v) (sym (one_own id [] s.open_at))
+        subst (λ (j : ℕ). IsCore app given (actions ++ took) (placed ++ []) j v (ended.open_at j)) (sym q)
+        (subst (IsCore app given (actions ++ took) (placed ++ []) id v) (sym (one_own id [] s.open_at))
         (is_core v (sym (one_own id new s.cores) ∙ subst (λ (j : ℕ). ended.cores j ≡ Some v) q e))))
         (λ d.
-        subst (IsCore given (actions ++ took) (placed ++ []) i v) (sym (one_other id i [] s.open_at d))
-        (other_core given actions placed s h id took own [] no_rows i v d (h.running i v (sym (one_other id i new s.cores d) ∙ e))))
+        subst (IsCore app given (actions ++ took) (placed ++ []) i v) (sym (one_other id i [] s.open_at d))
+        (other_core app codec given actions placed s h id took own [] no_rows i v d (h.running i v (sym (one_other id i new s.cores d) ∙ e))))
         (cases_eq i id);
     reading = λ i v e.
         ⊎_elim
@@ -658,45 +689,52 @@ module _ (given : Given) (actions : List Action) (placed : List Placed) (s : Cor
     reads_rise = ends_rise id told s.reads_at h.reads_rise;
     are_reads = λ i a c. h.are_reads i a (end_was id told s.reads_at i a c);
     apart = λ i a b c d. h.apart i a b (end_was id told s.open_at i a c) (end_was id told s.reads_at i b d);
-    values = λ w i n c e. values_on given actions placed s h id took own [] no_rows ended (λ x y. Contains-append_left s.done (gone ++ gone_reads) x y) goes_over w i n c e;
+    values = λ w i n c e. values_on app codec given actions placed s h id took own [] no_rows ended
+        (λ x y. Contains-append_left s.done (gone ++ gone_reads) x y) goes_over w i n c e;
     over = all_append (IsOver given (actions ++ took) (placed ++ []) ended) s.done (gone ++ gone_reads)
-        (each_of (IsOver given actions placed s) (IsOver given (actions ++ took) (placed ++ []) ended) (λ e o. over_on given actions placed s h id took own [] no_rows ended (λ i. omega arith) (λ i a c. inl (was i a c)) e o) s.done h.over)
+        (each_of (IsOver given actions placed s) (IsOver given (actions ++ took) (placed ++ []) ended)
+        (λ e o. over_on app codec given actions placed s h id took own [] no_rows ended (λ i. omega arith) (λ i a c. inl (was i a c)) e o) s.done
+        h.over)
         (all_append (IsOver given (actions ++ took) (placed ++ []) ended) gone gone_reads
         (all_in (IsOver given (actions ++ took) (placed ++ []) ended) gone (ended_by (s.open_at id) (λ a c. inl c)))
         (all_in (IsOver given (actions ++ took) (placed ++ []) ended) gone_reads (ended_by (s.reads_at id) (λ a c. inr c))));
     once = over_once s.done (gone ++ gone_reads) h.once gone_once
         (λ e f c d. two_by_open given actions placed s e f (element (IsOver given actions placed s) s.done e h.over c) (gone_is f d));
-    frames = still_sent given actions took s.sent h.frames;
+    frames = still_sent app codec given actions took s.sent h.frames;
   }
 
 -- a server starts, at first or after a crash
-pub beside_reading : StaysByReading
-beside_reading given actions placed s h log k bytes o member begins c =
+pub beside_reading : {S : Type 0} (app : Application S) (codec : Codec S) → StaysByReading app codec
+beside_reading {S} app codec given wf actions placed s h log k disk bytes o member same begins c =
     let took : List Action = Crashes log.node c.survive 0 ∷ [] in
-    let z = opens given actions h.may placed h.placed_are log.node c.survive 0 member o.core begins.node begins.is_given begins.requests c.stands in
+    let z = opens app given wf actions h.may placed h.placed_are log.node c.survive 0 member o.core begins.node begins.is_given begins.requests
+    disk same c.stands in
     let ps : placed ≡ placed ++ [] = sym (append-nil placed) in
     let n : length (actions ++ took) ≡ length actions + 1 = length-append actions took in
-    subst (λ ps. AreBeside given (actions ++ took) ps (after_end log.node (Some o.core) (length actions + 1) s)) (append-nil placed)
-    (beside_by_end given actions placed s h log.node (length actions + 1) (Some o.core) took (refl, tt) z.0
+    subst (λ ps. AreBeside app codec given (actions ++ took) ps (after_end log.node (Some o.core) (length actions + 1) s)) (append-nil placed)
+    (beside_by_end app codec given actions placed s h log.node (length actions + 1) (Some o.core) took (refl, tt) z.0
     (subst (ArePlaced given (actions ++ took)) ps z.1)
     (λ i. bare_start given actions log.node c.survive 0 i (h.bare i))
     (omega (arith, n))
-    (λ v e. subst (λ ps. IsCore given (actions ++ took) ps log.node v []) ps (subst (λ (v : CoreView). IsCore given (actions ++ took) placed log.node v []) (some_same o.core v e) z.2))
-    (λ v e. subst (λ (v : CoreView). IsReader given (actions ++ took) log.node v []) (some_same o.core v e) (reader_start given actions log.node c.survive 0 o.core begins.executed begins.reads (h.bare log.node))))
+    (λ v e. subst (λ ps. IsCore app given (actions ++ took) ps log.node v []) ps
+    (subst (λ (v : CoreView S). IsCore app given (actions ++ took) placed log.node v []) (some_same o.core v e) z.2))
+    (λ v e. subst (λ (v : CoreView S). IsReader given (actions ++ took) log.node v []) (some_same o.core v e)
+    (reader_start given actions log.node c.survive 0 o.core begins.executed begins.reads (h.bare log.node))))
 
-pub beside_start : StaysByStart
-beside_start given actions placed s h log k batches n o member cut begins =
-    let server : Server = server_after given actions log.node in
-    let c = opens_after_cuts given log k 0 server batches n (record { server = o.core.server; end = o.end }) cut begins.opens in
-    (c.survive, beside_reading given actions placed s h log k (cut_file log k server batches n) o member begins c)
+pub beside_start : {S : Type 0} (app : Application S) (codec : Codec S) → IsCodec codec → StaysByStart app codec
+beside_start {S} app codec inverse given wf actions placed s h log k disk batches n o member same cut begins =
+    let server : PackedServer S = record (server_packed app (server_after given actions log.node)) { disk = disk } in
+    let c = opens_after_cuts app codec inverse given log k 0 server batches n (record { server = o.core.server; end = o.end }) cut begins.opens in
+    (c.survive, beside_reading app codec given wf actions placed s h log k disk (cut_file app codec log k server batches n) o member same begins c)
 
 -- a server stops for good
-pub beside_stop : (given : Given) (actions : List Action) (placed : List Placed) (s : Cores) → AreBeside given actions placed s → (id : ℕ) → AreBeside given actions placed (after_end id None (length actions) s)
-beside_stop given actions placed s h id =
+pub beside_stop : {S : Type 0} (app : Application S) (codec : Codec S) (given : Given) (actions : List Action) (placed : List Placed) (s : Cores S)
+    → AreBeside app codec given actions placed s → (id : ℕ) → AreBeside app codec given actions placed (after_end id None (length actions) s)
+beside_stop app codec given actions placed s h id =
     let n : length (actions ++ []) ≡ length actions + 0 = length-append {A = Action} actions [] in
-    subst (λ xs. AreBeside given xs placed (after_end id None (length actions) s)) (append-nil actions)
-    (subst (λ ps. AreBeside given (actions ++ []) ps (after_end id None (length actions) s)) (append-nil placed)
-    (beside_by_end given actions placed s h id (length actions) None [] tt
+    subst (λ xs. AreBeside app codec given xs placed (after_end id None (length actions) s)) (append-nil actions)
+    (subst (λ ps. AreBeside app codec given (actions ++ []) ps (after_end id None (length actions) s)) (append-nil placed)
+    (beside_by_end app codec given actions placed s h id (length actions) None [] tt
     (subst (λ xs. AllMayAct given xs (new_cluster given)) (sym (append-nil actions)) h.may)
     (subst (ArePlaced given (actions ++ [])) (sym (append-nil placed)) (subst (λ xs. ArePlaced given xs placed) (sym (append-nil actions)) h.placed_are))
     (λ i. subst (λ xs. StartsBare xs i) (sym (append-nil actions)) (h.bare i))

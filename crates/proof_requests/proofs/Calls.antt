@@ -6,40 +6,50 @@ use Rattle.std.proofs.lemmas.List.{append-nil}
 use Rattle.raft_store.specs.declared.entry.Entry.{Entry}
 use Rattle.raft_store.specs.declared.entry.Value.{Value}
 use Rattle.raft_calls.specs.declared.message.Message.{Message}
+use Rattle.raft_codec.specs.Codec.{Codec, IsCodec}
 use Rattle.raft_node.specs.declared.act.Act.{Act}
 use Rattle.raft_node.specs.declared.act.Act.TheVariants as acts
 use Rattle.raft_node.specs.declared.given.Given.{Given}
 use Rattle.raft_node.specs.declared.record.Executed.{Executed}
-use Rattle.raft_node.specs.declared.record.Installed.{Installed}
 use Rattle.raft_node.specs.Net.{Records}
 use Rattle.raft_node.specs.WellFormed.{IsWellFormed}
 use Rattle.raft_answers.specs.declared.answer.Reply.{Reply}
 use Rattle.raft_answers.specs.Requests.{Open}
-use Rattle.raft_server.specs.Represents.{Represents, said_by}
-use Rattle.raft_server.specs.Views.{ServerView}
+use Rattle.proof_packed.specs.Nodes.{PackedInstalled, PackedMessage, PackedRecords, packed_message, packed_records}
+use Rattle.proof_packed.specs.Stores.{Application, Packed}
+use Rattle.raft_core.specs.proof_packed_servers.Servers.{PackedServer, PackedStep, packed_flushed_first, server_packed}
+use Rattle.raft_core.specs.raft_packed_wire.declared.packet.SentMessage.{SentMessage}
+use Rattle.raft_core.specs.raft_packed_wire.Messages.{received as message_of}
+use Rattle.raft_core.specs.raft_packed_server.Represents.{Represents, said_by}
+use Rattle.raft_core.specs.raft_packed_server.Views.{ServerView}
 use Rattle.raft_core.specs.declared.frame.Frame.TheVariants as frames
 use Rattle.raft_core.specs.declared.moves.Move.{Move}
-use Rattle.raft_core.specs.declared.moves.Move.TheVariants.{Beat, ChangeLearners, ChangeVoters, Fail, Stand, StepDown}
+use Rattle.raft_core.specs.declared.moves.Move.TheVariants.{Beat, ChangeLearners, ChangeVoters, Fail, FinishSnapshot, Stand, StepDown}
 use Rattle.raft_core.specs.declared.output.Output.{Output}
 use Rattle.raft_core.specs.Calls.{Releases, Ticks}
 use Rattle.raft_core.specs.Frames.{asked as ask_out}
 use Rattle.raft_core.specs.Laws.{replies_of}
-use Rattle.raft_core.specs.Outputs.{executed_outputs, install, lost_left, lost_replies, overdue_left, overdue_replies, reads_out, replies_out, said_outputs, sent, settled_all}
+use Rattle.raft_core.specs.Outputs.{Sends, executed_outputs, install, lost_left, lost_replies, overdue_left, overdue_replies, reads_out, replies_out}
+use Rattle.raft_core.specs.Outputs.{said_outputs, sent}
+use Rattle.raft_core.specs.Outputs.{settled_all}
 use Rattle.raft_core.specs.Reads.{ReadsView, failed_replies, handed_after, read_replies, refused_left, refused_replies, with_heard, with_left}
-use Rattle.raft_core.specs.Steps.{act_of, steps_at, with_steps}
+use Rattle.raft_core.specs.Steps.{act_of, step_taking, with_steps}
 use Rattle.raft_core.specs.Views.{CoreView}
 use Rattle.raft_core.proofs.Told.{before, behind_read, none_asked, none_granted, none_read, replies_more}
-use Rattle.proof_servers.specs.Servers.{Action, AllMayAct, Cluster, Crashes, Flushes, MayTake, Server, Step, Takes, after_action, after_actions, crashed, flushed_first, new_cluster}
+use Rattle.proof_servers.specs.Servers.{Action, AllMayAct, Cluster, Crashes, Flushes, MayTake, Step, Takes, after_action, after_actions, crashed}
+use Rattle.proof_servers.specs.Servers.{new_cluster}
 use Rattle.proof_servers.proofs.Follow.{changes}
-use Rattle.proof_requests.specs.Actions.{Initializes, flushes, initialized, received, released, taking, ticked}
+use Rattle.proof_requests.specs.Actions.{AreSteps, Initializes, flushes, initialized, received, released, taking, ticked}
 use Rattle.proof_requests.specs.Answered.{AreAnswered}
 use Rattle.proof_requests.specs.Frames.{frames_of}
 use Rattle.proof_requests.specs.Laws.{AdmitsOne, IsOwnAction, Keeps, OpensWithNone, ReceivesSent}
 use Rattle.proof_requests.specs.Requests.{AreOpen, ArePlaced, Asked, IsCore, IsWaiting, Placed, server_after}
 use Rattle.proof_requests.proofs.Closing.{Closed, closes_executed, closes_lost, closes_none, closes_overdue}
-use Rattle.proof_requests.proofs.Kept.{NoProposal, flushes_no_proposal, flushes_own, open_kept, own_no_crash, placed_kept, server_steps, steps_may, steps_no_proposal, steps_own}
+use Rattle.proof_requests.proofs.Kept.{NoProposal, flushes_no_proposal, flushes_own, open_kept, own_no_crash, placed_kept, steps_may}
+use Rattle.proof_requests.proofs.Kept.{steps_no_proposal, steps_own}
 use Rattle.proof_requests.proofs.Lists.{none_in, pairs_append, rises_more}
 use Rattle.proof_requests.proofs.More.{after_both, may_both}
+use Rattle.proof_requests.proofs.Packs.{acts_at, acts_packed, crash_packed, crash_stands, flushes_packed, moves_plain, said_all, said_first, stands_after}
 use Rattle.proof_requests.proofs.Sent.{AreSent, asks_sent, bag_said, granted_sent, no_read_frames, no_told_frames, none_sent, said_sent, sent_before, taken_sent}
 use Rattle.proof_requests.proofs.Told.{IsTold, all_flushed, all_told, may_flush}
 
@@ -50,10 +60,11 @@ module _ (bag : List Message) (id at : ℕ) where
   move_may Beat = tt
   move_may (Fail target) = tt
   move_may StepDown = tt
+  move_may FinishSnapshot = tt
   move_may (ChangeLearners learners) = tt
   move_may (ChangeVoters groups learners) = tt
 
-  moves_may : (ms : List Move) → AllByRecursion (λ (s : Step). MayTake bag id s.act) (steps_at at (map act_of ms))
+  moves_may : (ms : List Move) → AllByRecursion (λ (s : Step). MayTake bag id s.act) (acts_at at (map act_of ms))
   moves_may [] = tt
   moves_may (m ∷ ms) = (move_may m, moves_may ms)
 
@@ -65,21 +76,27 @@ move_no Stand values e = cc
 move_no Beat values e = cc
 move_no (Fail target) values e = cc
 move_no StepDown values e = cc
+move_no FinishSnapshot values e = cc
 move_no (ChangeLearners learners) values e = cc
 move_no (ChangeVoters groups learners) values e = cc
 
-moves_no : (at : ℕ) (ms : List Move) → AllByRecursion (λ (s : Step). NoPropose s.act) (steps_at at (map act_of ms))
+moves_no : (at : ℕ) (ms : List Move) → AllByRecursion (λ (s : Step). NoPropose s.act) (acts_at at (map act_of ms))
 moves_no at [] = tt
 moves_no at (m ∷ ms) = (move_no m, moves_no at ms)
 
 -- messages and snapshots are no replies
-none_told : (start : ℕ) (ms : List Message) → replies_of (map (sent start) ms) ≡ []
-none_told start [] = refl
-none_told start (m ∷ ms) = none_told start ms
+module _ {S : Type 0} where
+  none_told : (c : Codec S) (start : ℕ) (xs : List (SentMessage (Packed S))) → replies_of (map (sent c start) xs) ≡ []
+  none_told c start [] = refl
+  none_told c start (x ∷ xs) = none_told c start xs
 
-none_installed : (xs : List Installed) → replies_of (map install xs) ≡ []
-none_installed [] = refl
-none_installed (x ∷ xs) = none_installed xs
+  none_framed : (app : Application S) (c : Codec S) (start : ℕ) (ms : List (PackedMessage S)) (out : List (Output S)) → Sends app c start ms out
+      → replies_of out ≡ []
+  none_framed app c start ms out s = ap replies_of s.leaves ∙ none_told c start s.packets
+
+  none_installed : (xs : List (PackedInstalled S)) → replies_of (map install xs) ≡ []
+  none_installed [] = refl
+  none_installed (x ∷ xs) = none_installed xs
 
 initialize_no : NoPropose acts.Initialize
 initialize_no values e = cc
@@ -87,84 +104,134 @@ initialize_no values e = cc
 take_no : (m : Message) → NoPropose (acts.Take m)
 take_no m values e = cc
 
-module _ (given : Given) (wf : IsWellFormed given) (actions : List Action) (may : AllMayAct given actions (new_cluster given)) (placed : List Placed) (placed_are : ArePlaced given actions placed)
-    (id : ℕ) (asked : List Asked) (old new : CoreView) (out : List Output) (core : IsCore given actions placed id old asked) where
+module _ {S : Type 0} (app : Application S) (c : Codec S) (given : Given) (wf : IsWellFormed given) (actions : List Action)
+    (may : AllMayAct given actions (new_cluster given)) (placed : List Placed) (placed_are : ArePlaced given actions placed)
+    (id : ℕ) (asked : List Asked) (old new : CoreView S) (out : List (Output S)) (core : IsCore app given actions placed id old asked) where
   abbrev pub Kept : List Action → Type 0
-  Kept took = Keeps given actions placed id asked out new took
+  Kept took = Keeps app c given actions placed id asked out new took
+
+  -- by steps of the model's server that are these, packed
+  abbrev pub KeptBy : List (PackedStep S) → Type 0
+  KeptBy taken = (steps : List Step) × AreSteps app steps taken × Kept (taking id steps)
 
   abbrev bag : List Message
   bag = (after_actions given actions (new_cluster given)).released.bag
 
   -- the same values
-  pub keeps_same : (took : List Action) → AllByRecursion (IsOwnAction id) took → AllMayAct given took (after_actions given actions (new_cluster given)) → ArePlaced given (actions ++ took) placed
-      → Closed given (actions ++ took) placed id asked (replies_of out) new.requests → new.id ≡ old.id → new.server.given ≡ given → Represents (server_after given (actions ++ took) id) new.server
-      → AreSent (after_actions given (actions ++ took) (new_cluster given)).released.bag (frames_of out) → Kept took
-  keeps_same took own m ps c is g r sent_are = record {
+  pub keeps_same : (took : List Action) → AllByRecursion (IsOwnAction id) took
+      → AllMayAct given took (after_actions given actions (new_cluster given)) → ArePlaced given (actions ++ took) placed
+      → Closed given (actions ++ took) placed id asked (replies_of out) new.requests → new.id ≡ old.id → new.server.given ≡ given
+      → Represents (server_packed app (server_after given (actions ++ took) id)) new.server
+      → AreSent app c (after_actions given (actions ++ took) (new_cluster given)).released.bag (frames_of out) → Kept took
+  keeps_same took own m ps k is g r sent_are = record {
     own = own;
     may = may_both given actions took (new_cluster given) may m;
     more = [];
-    of_asked = λ w by k e. absurd (none_in w k);
+    of_asked = λ w by l e. absurd (none_in w l);
     placed_are = subst (ArePlaced given (actions ++ took)) (sym (append-nil placed)) ps;
-    left = c.left;
-    answered = subst (λ ps. AreAnswered given (actions ++ took) ps id asked (replies_of out) c.left) (sym (append-nil placed)) c.answered;
-    core = subst (λ ps. IsCore given (actions ++ took) ps id new c.left) (sym (append-nil placed)) (record { member = core.member; own = is ∙ core.own; given_is = g; stands = r; open_are = c.open_are });
+    left = k.left;
+    answered = subst (λ ps. AreAnswered given (actions ++ took) ps id asked (replies_of out) k.left) (sym (append-nil placed)) k.answered;
+    core = subst (λ ps. IsCore app given (actions ++ took) ps id new k.left) (sym (append-nil placed))
+        (record { member = core.member; own = is ∙ core.own; given_is = g; stands = r; open_are = k.open_are });
     frames = sent_are;
   }
 
-  closed_as : (upto : List Action) (rs : List Reply) (o : Open) → replies_of out ≡ rs → new.requests ≡ o → Closed given upto placed id asked rs o → Closed given upto placed id asked (replies_of out) new.requests
-  closed_as upto rs o e q c = subst (λ rs. Closed given upto placed id asked rs new.requests) (sym e) (subst (Closed given upto placed id asked rs) (sym q) c)
+  closed_as : (upto : List Action) (rs : List Reply) (o : Open) → replies_of out ≡ rs → new.requests ≡ o → Closed given upto placed id asked rs o
+      → Closed given upto placed id asked (replies_of out) new.requests
+  closed_as upto rs o e q k =
+      subst (λ rs. Closed given upto placed id asked rs new.requests) (sym e) (subst (Closed given upto placed id asked rs) (sym q) k)
 
   -- steps that propose nothing
-  pub stepped : (at : ℕ) (todo : List Act) → new.server.given ≡ old.server.given
-      → ((s : Server) → Represents s old.server → Represents (with_steps old.server.given (steps_at at todo) s) new.server) → new.id ≡ old.id → AllByRecursion (λ (s : Step). MayTake bag id s.act) (steps_at at todo)
-      → AllByRecursion (λ (s : Step). NoPropose s.act) (steps_at at todo) → (rs : List Reply) (o : Open) → replies_of out ≡ rs → new.requests ≡ o
-      → (AreOpen given (actions ++ map (Takes id) (steps_at at todo)) placed id old.requests asked → Closed given (actions ++ map (Takes id) (steps_at at todo)) placed id asked rs o)
-      → ((bag : List Message) → AreSent bag (frames_of out)) → Kept (taking id (steps_at at todo))
-  stepped at todo given_same steps is m n rs o e q close sent_are =
-      let took : List Action = map (Takes id) (steps_at at todo) in
-      let own : AllByRecursion (IsOwnAction id) took = steps_own given id (steps_at at todo) in
-      let open_now : AreOpen given (actions ++ took) placed id old.requests asked = open_kept given actions took placed id (own_no_crash id took own) old.requests asked core.open_are in
-      keeps_same took own (steps_may given id (steps_at at todo) (after_actions given actions (new_cluster given)) core.member m)
-      (placed_kept given actions took placed (steps_no_proposal given id (steps_at at todo) n) placed_are)
+  pub stepped : (steps : List Step) (taken : List (PackedStep S)) → AreSteps app steps taken → new.server.given ≡ old.server.given
+      → ((s : PackedServer S) → Represents s old.server → Represents (with_steps app old.server.given taken s) new.server) → new.id ≡ old.id
+      → AllByRecursion (λ (s : Step). MayTake bag id s.act) steps
+      → AllByRecursion (λ (s : Step). NoPropose s.act) steps → (rs : List Reply) (o : Open) → replies_of out ≡ rs → new.requests ≡ o
+      → (AreOpen given (actions ++ map (Takes id) steps) placed id old.requests asked
+      → Closed given (actions ++ map (Takes id) steps) placed id asked rs o)
+      → ((bag : List Message) → AreSent app c bag (frames_of out)) → Kept (taking id steps)
+  stepped steps taken same given_same takes is m n rs o e q close sent_are =
+      let took : List Action = map (Takes id) steps in
+      let own : AllByRecursion (IsOwnAction id) took = steps_own given id steps in
+      let open_now : AreOpen given (actions ++ took) placed id old.requests asked =
+      open_kept given actions took placed id (own_no_crash id took own) old.requests asked core.open_are in
+      let may_took : AllMayAct given took (after_actions given actions (new_cluster given)) =
+      steps_may given id steps (after_actions given actions (new_cluster given)) core.member m in
+      keeps_same took own may_took
+      (placed_kept given actions took placed (steps_no_proposal given id steps n) placed_are)
       (closed_as (actions ++ took) rs o e q (close open_now)) is (given_same ∙ core.given_is)
-      (subst (λ (s : Server). Represents s new.server) (sym (server_steps given id (steps_at at todo) actions))
-      (subst (λ g. Represents (with_steps g (steps_at at todo) (server_after given actions id)) new.server) core.given_is (steps (server_after given actions id) core.stands)))
+      (stands_after app given wf id core.member steps taken same actions (may_both given actions took (new_cluster given) may may_took) new.server
+      (subst (λ g. Represents (with_steps app g taken (server_packed app (server_after given actions id))) new.server) core.given_is
+      (takes (server_packed app (server_after given actions id)) core.stands)))
       (sent_are (after_actions given (actions ++ took) (new_cluster given)).released.bag)
 
-  pub initializes : Initializes old out new → Kept (taking id (initialized old))
-  initializes m =
-      stepped old.clock (acts.Initialize ∷ []) m.1.takes.given m.1.takes.steps (ap (λ (v : CoreView). v.id) m.1.rest) (tt, tt) (initialize_no, tt) [] old.requests (ap replies_of m.0) (ap (λ (v : CoreView). v.requests) m.1.rest)
-      (λ k. closes_none given _ placed id asked old.requests k) (λ bag. none_sent bag out (ap frames_of m.0))
+  pub initializes : Initializes app old out new → KeptBy (initialized app old)
+  initializes m = (
+    acts_at old.clock (acts.Initialize ∷ []),
+    refl,
+    stepped (acts_at old.clock (acts.Initialize ∷ [])) (initialized app old) refl m.1.takes.given m.1.takes.steps
+        (ap (λ (v : CoreView S). v.id) m.1.rest)
+        (tt, tt) (initialize_no, tt) [] old.requests (ap replies_of m.0) (ap (λ (v : CoreView S). v.requests) m.1.rest)
+        (λ k. closes_none given _ placed id asked old.requests k) (λ bag. none_sent app c bag out (ap frames_of m.0)),
+  )
 
-  pub ticks : (t : Ticks old out new) → Kept (taking id (ticked old out new t))
+  pub ticks : (t : Ticks app old out new) → KeptBy (ticked app old out new t)
   ticks t =
       let rs : List Reply = overdue_replies t.answers.lost t.upto old.requests in
       let ys : List Reply = refused_replies t.answers.gone old.reads ++ failed_replies t.upto (refused_left t.answers.gone old.reads) in
-      stepped new.clock (map act_of t.moves) t.takes.given t.takes.steps (ap (λ (v : CoreView). v.id) t.rest) (moves_may bag id new.clock t.moves) (moves_no new.clock t.moves)
-      rs (overdue_left t.answers.lost t.upto old.requests) (ap replies_of t.answers.leaves ∙ behind_read (map ask_out t.asks) rs ys (none_asked t.asks)) t.answers.requests_left
-      (λ k. closes_overdue given _ placed id t.answers.lost t.upto asked old.requests k)
-      (λ bag. subst (λ (o : List Output). AreSent bag (frames_of o)) (sym t.answers.leaves) (asks_sent bag t.asks (replies_out rs ++ reads_out ys) (no_told_frames rs ys)))
+      let steps : List Step = acts_at new.clock (map act_of t.moves) in
+      let same : AreSteps app steps (ticked app old out new t) = acts_packed app new.clock (map act_of t.moves) (moves_plain t.moves) in (
+        steps,
+        same,
+        stepped steps (ticked app old out new t) same t.takes.given t.takes.steps (ap (λ (v : CoreView S). v.id) t.rest)
+            (moves_may bag id new.clock t.moves) (moves_no new.clock t.moves) rs (overdue_left t.answers.lost t.upto old.requests)
+            (ap replies_of t.answers.leaves ∙ behind_read (map ask_out t.asks) rs ys (none_asked S t.asks)) t.answers.requests_left
+            (λ k. closes_overdue given _ placed id t.answers.lost t.upto asked old.requests k)
+            (λ bag. subst (λ (o : List (Output S)). AreSent app c bag (frames_of o)) (sym t.answers.leaves)
+            (asks_sent app c bag t.asks (replies_out rs ++ reads_out ys) (no_told_frames S rs ys))),
+      )
 
-  pub receives : (bytes : List ℕ) (r : ReceivesSent given actions bytes old out new) → Kept (taking id (received old out new bytes r.1))
-  receives bytes (from, (frames.Packet p, is, (m, e, t))) =
-      let heard : ReadsView = with_heard m old.reads in
+  pub receives : IsCodec c → (bytes : List ℕ) (r : ReceivesSent app c given actions bytes old out new) → KeptBy (received app old out new c bytes r.1)
+  receives inverse bytes (from, (frames.Packet p, is, (m, e, t))) =
+      let heard : ReadsView = with_heard m.message old.reads in
       let rs : List Reply = lost_replies t.answers.lost old.requests in
       let ys : List Reply = refused_replies t.answers.gone heard ++ read_replies old.executed (refused_left t.answers.gone heard) in
-      stepped old.clock (acts.Take m ∷ []) t.takes.given t.takes.steps (ap (λ (v : CoreView). v.id) t.rest) ((taken_sent bag bytes p m from is.0 is.1 e, t.to ∙ core.own), tt) (take_no m, tt)
-      rs (lost_left t.answers.lost old.requests) (ap replies_of t.answers.leaves ∙ before rs (reads_out ys) (none_read ys)) t.answers.requests_left
-      (λ k. closes_lost given _ placed id t.answers.lost asked old.requests k) (λ bag. none_sent bag out (ap frames_of t.answers.leaves ∙ no_told_frames rs ys))
-  receives bytes (from, (frames.PreVote ask, is, t)) =
-      stepped old.clock [] (ap (λ (v : CoreView). v.server.given) t.rest) (λ s is. subst (λ (v : CoreView). Represents s v.server) (sym t.rest) is) (ap (λ (v : CoreView). v.id) t.rest) tt tt [] old.requests
-      (ap replies_of t.leaves ∙ none_granted t.replies) (ap (λ (v : CoreView). v.requests) t.rest)
-      (λ k. closes_none given _ placed id asked old.requests k) (λ bag. subst (λ (o : List Output). AreSent bag (frames_of o)) (sym t.leaves) (granted_sent bag t.replies))
-  receives bytes (from, (frames.PreVoteReply reply, is, t)) =
-      stepped old.clock (map act_of t.moves) t.moved.takes.given t.moved.takes.steps (ap (λ (v : CoreView). v.id) t.moved.rest) (moves_may bag id old.clock t.moves) (moves_no old.clock t.moves) [] old.requests
-      (ap replies_of t.leaves) (ap (λ (v : CoreView). v.requests) t.moved.rest)
-      (λ k. closes_none given _ placed id asked old.requests k) (λ bag. none_sent bag out (ap frames_of t.leaves))
+      let x : (x : Message) × Contains bag x × (packed_message app x ≡ message_of app m) = taken_sent app c inverse bag bytes p m from is.0 is.1 e in
+      let steps : List Step = acts_at old.clock (acts.Take x.0 ∷ []) in
+      let taken : List (PackedStep S) = step_taking old.clock (message_of app m) ∷ [] in
+      let same : AreSteps app steps taken = ap (λ (y : PackedMessage S). step_taking old.clock y ∷ []) x.2 in
+      let to : x.0.to ≡ id = ap (λ (y : PackedMessage S). y.message.to) x.2 ∙ (t.to ∙ core.own) in (
+        steps,
+        same,
+        stepped steps taken same t.takes.given t.takes.steps (ap (λ (v : CoreView S). v.id) t.rest) ((x.1, to), tt) (take_no x.0, tt)
+            rs (lost_left t.answers.lost old.requests) (ap replies_of t.answers.leaves ∙ before rs (reads_out ys) (none_read S ys))
+            t.answers.requests_left
+            (λ k. closes_lost given _ placed id t.answers.lost asked old.requests k)
+            (λ bag. none_sent app c bag out (ap frames_of t.answers.leaves ∙ no_told_frames S rs ys)),
+      )
+  receives inverse bytes (from, (frames.PreVote ask, is, t)) = (
+    [],
+    refl,
+    stepped [] [] refl (ap (λ (v : CoreView S). v.server.given) t.rest) (λ s is. subst (λ (v : CoreView S). Represents s v.server) (sym t.rest) is)
+        (ap (λ (v : CoreView S). v.id) t.rest) tt tt [] old.requests
+        (ap replies_of t.leaves ∙ none_granted S t.replies) (ap (λ (v : CoreView S). v.requests) t.rest)
+        (λ k. closes_none given _ placed id asked old.requests k)
+        (λ bag. subst (λ (o : List (Output S)). AreSent app c bag (frames_of o)) (sym t.leaves) (granted_sent app c bag t.replies)),
+  )
+  receives inverse bytes (from, (frames.PreVoteReply reply, is, t)) =
+      let steps : List Step = acts_at old.clock (map act_of t.moves) in
+      let taken : List (PackedStep S) = received app old out new c bytes (frames.PreVoteReply reply, is, t) in
+      let same : AreSteps app steps taken = acts_packed app old.clock (map act_of t.moves) (moves_plain t.moves) in (
+        steps,
+        same,
+        stepped steps taken same t.moved.takes.given t.moved.takes.steps (ap (λ (v : CoreView S). v.id) t.moved.rest)
+            (moves_may bag id old.clock t.moves) (moves_no old.clock t.moves) [] old.requests
+            (ap replies_of t.leaves) (ap (λ (v : CoreView S). v.requests) t.moved.rest)
+            (λ k. closes_none given _ placed id asked old.requests k) (λ bag. none_sent app c bag out (ap frames_of t.leaves)),
+      )
 
   -- Records came on disk
 
-  module _ (position : ℕ) (r : Releases position old out new) where
+  module _ (position : ℕ) (r : Releases app c position old out new) where
     abbrev count : ℕ
     count = released position old
 
@@ -174,8 +241,16 @@ module _ (given : Given) (wf : IsWellFormed given) (actions : List Action) (may 
     abbrev es : List Entry
     es = map (λ (x : Executed). x.entry) r.said.executed
 
-    flush : (r.said ≡ said_by (take count (server_after given actions id).waiting)) × Represents (flushed_first count (server_after given actions id)) new.server
-    flush = r.flushes (server_after given actions id) core.stands
+    -- what the model's steps said that leave
+    abbrev theirs : Records (List Entry)
+    theirs = said_all (take count (server_after given actions id).waiting)
+
+    flush : (r.said ≡ said_by (take count (server_packed app (server_after given actions id)).waiting))
+        × Represents (packed_flushed_first app count (server_packed app (server_after given actions id))) new.server
+    flush = r.flushes (server_packed app (server_after given actions id)) core.stands
+
+    said_is : r.said ≡ packed_records app theirs
+    said_is = flush.0 ∙ said_first app count (server_after given actions id)
 
     may_flushed : (k : ℕ) (c : Cluster) → AllMayAct given (flushes id k) c
     may_flushed zero c = tt
@@ -188,23 +263,28 @@ module _ (given : Given) (wf : IsWellFormed given) (actions : List Action) (may 
     open_now = open_kept given actions flushed placed id (own_no_crash id flushed (flushes_own id count)) old.requests asked core.open_are
 
     told : AllByRecursion (IsTold given (actions ++ flushed) id) es
-    told = subst (λ (s : Records (Unit {0})). AllByRecursion (IsTold given (actions ++ flushed) id) (map (λ (x : Executed). x.entry) s.executed)) (sym flush.0) (all_told given wf id core.member count actions may)
+    told =
+        subst (λ (s : PackedRecords S). AllByRecursion (IsTold given (actions ++ flushed) id) (map (λ (x : Executed). x.entry) s.executed))
+        (sym said_is)
+        (all_told given wf id core.member count actions may)
 
-    said : replies_of (said_outputs old.start r.said old.requests.proposed) ≡ replies_of (executed_outputs es old.requests.proposed)
+    said : replies_of (said_outputs r.frames r.said old.requests.proposed) ≡ replies_of {S = S} (executed_outputs es old.requests.proposed)
     said =
-        replies_more (map (sent old.start) r.said.bag) (map install r.said.installed ++ executed_outputs es old.requests.proposed)
-        ∙ (ap (λ rs. rs ++ replies_of (map install r.said.installed ++ executed_outputs es old.requests.proposed)) (none_told old.start r.said.bag)
+        replies_more r.frames (map install r.said.installed ++ executed_outputs es old.requests.proposed)
+        ∙ (ap (λ rs. rs ++ replies_of (map install r.said.installed ++ executed_outputs es old.requests.proposed))
+        (none_framed app c old.start r.said.bag r.frames r.sends)
         ∙ (replies_more (map install r.said.installed) (executed_outputs es old.requests.proposed)
-        ∙ ap (λ rs. rs ++ replies_of (executed_outputs es old.requests.proposed)) (none_installed r.said.installed)))
+        ∙ ap (λ rs. rs ++ replies_of {S = S} (executed_outputs es old.requests.proposed)) (none_installed r.said.installed)))
 
     abbrev told_reads : List Reply
     told_reads = read_replies (handed_after r.said old.executed) (with_left r.said.answers old.reads)
 
-    leave : replies_of out ≡ replies_of (executed_outputs es old.requests.proposed)
+    leave : replies_of out ≡ replies_of {S = S} (executed_outputs es old.requests.proposed)
     leave =
         ap replies_of r.leaves
-        ∙ (replies_more (said_outputs old.start r.said old.requests.proposed) (reads_out told_reads)
-        ∙ (ap (λ rs. replies_of (said_outputs old.start r.said old.requests.proposed) ++ rs) (none_read told_reads) ∙ (append-nil (replies_of (said_outputs old.start r.said old.requests.proposed)) ∙ said)))
+        ∙ (replies_more (said_outputs r.frames r.said old.requests.proposed) (reads_out told_reads)
+        ∙ (ap (λ rs. replies_of (said_outputs r.frames r.said old.requests.proposed) ++ rs) (none_read S told_reads)
+        ∙ (append-nil (replies_of (said_outputs r.frames r.said old.requests.proposed)) ∙ said)))
 
     abbrev bag_now : List Message
     bag_now = (after_actions given (actions ++ flushed) (new_cluster given)).released.bag
@@ -212,50 +292,60 @@ module _ (given : Given) (wf : IsWellFormed given) (actions : List Action) (may 
     pub releases : Kept (flushes id (released position old))
     releases =
         keeps_same flushed (flushes_own id count) (may_flushed count (after_actions given actions (new_cluster given))) placed_now
-        (closed_as (actions ++ flushed) (replies_of (executed_outputs es old.requests.proposed)) (settled_all es old.requests) leave (ap (λ (v : CoreView). v.requests) r.rest)
-        (closes_executed given wf (actions ++ flushed) (may_flush given actions id count core.member may) placed placed_now id core.member es told asked old.requests open_now))
-        (ap (λ (v : CoreView). v.id) r.rest) (r.given ∙ core.given_is)
-        (subst (λ (s : Server). Represents s new.server) (sym (all_flushed given count actions id)) flush.1)
-        (subst (λ (o : List Output). AreSent bag_now (frames_of o)) (sym r.leaves)
-        (sent_before bag_now (said_outputs old.start r.said old.requests.proposed) (reads_out told_reads)
-        (said_sent bag_now old.start r.said.bag r.said.installed es old.requests.proposed r.read_back
-        (λ m c. bag_said given count actions id m (subst (λ (s : Records (Unit {0})). Contains s.bag m) flush.0 c)))
-        (no_read_frames told_reads)))
+        (closed_as (actions ++ flushed) (replies_of {S = S} (executed_outputs es old.requests.proposed)) (settled_all es old.requests) leave
+        (ap (λ (v : CoreView S). v.requests) r.rest)
+        (closes_executed given wf (actions ++ flushed) (may_flush given actions id count core.member may) placed placed_now id core.member S es told
+        asked
+        old.requests open_now))
+        (ap (λ (v : CoreView S). v.id) r.rest) (r.given ∙ core.given_is)
+        (subst (λ (s : PackedServer S). Represents s new.server)
+        (sym (ap (server_packed app) (all_flushed given count actions id) ∙ flushes_packed app count (server_after given actions id))) flush.1)
+        (subst (λ (o : List (Output S)). AreSent app c bag_now (frames_of o)) (sym r.leaves)
+        (sent_before app c bag_now (said_outputs r.frames r.said old.requests.proposed) (reads_out told_reads)
+        (said_sent app c bag_now old.start theirs.bag r.frames r.said.installed es old.requests.proposed
+        (subst (λ (s : PackedRecords S). Sends app c old.start s.bag r.frames) said_is r.sends)
+        (λ m k. bag_said given count actions id m k))
+        (no_read_frames S told_reads)))
 
 -- a request that is taken
-pub admits : AdmitsOne
-admits given actions placed id asked old new token operation number core a above fresh =
+pub admits : {S : Type 0} (app : Application S) → AdmitsOne app
+admits {S} app given actions placed id asked old new token operation number core a above fresh =
     let h = core.open_are in
     let one : Asked = record { number = number; token = token; operation = operation; came = length actions } in
-    let same : new.server ≡ old.server = ap (λ (v : CoreView). v.server) a in
+    let same : new.server ≡ old.server = ap (λ (v : CoreView S). v.server) a in
     record {
       member = core.member;
-      own = ap (λ (v : CoreView). v.id) a ∙ core.own;
-      given_is = ap (λ (v : ServerView). v.given) same ∙ core.given_is;
-      stands = subst (Represents (server_after given actions id)) (sym same) core.stands;
-      open_are = subst (λ (o : Open). AreOpen given actions placed id o (asked ++ one ∷ [])) (sym (ap (λ (v : CoreView). v.requests) a)) (record {
+      own = ap (λ (v : CoreView S). v.id) a ∙ core.own;
+      given_is = ap (λ (v : ServerView S). v.given) same ∙ core.given_is;
+      stands = subst (Represents (server_packed app (server_after given actions id))) (sym same) core.stands;
+      open_are = subst (λ (o : Open). AreOpen given actions placed id o (asked ++ one ∷ [])) (sym (ap (λ (v : CoreView S). v.requests) a)) (record {
         proposed = h.proposed;
         waiting = h.waiting ++ one ∷ [];
         all = ap (λ xs. xs ++ one ∷ []) h.all ∙ append_assoc h.proposed h.waiting (one ∷ []);
         awaited = h.awaited;
-        waits = pairs_append (IsWaiting given actions placed id) old.requests.waiting h.waiting _ (one ∷ []) h.waits (record { token = refl; operation = refl; came = omega arith; fresh = fresh }, tt);
+        waits = pairs_append (IsWaiting given actions placed id) old.requests.waiting h.waiting _ (one ∷ []) h.waits
+            (record { token = refl; operation = refl; came = omega arith; fresh = fresh }, tt);
         rises = rises_more asked one h.rises above;
       });
     }
 
 -- one that starts
-pub opens : OpensWithNone
-opens given actions may placed placed_are id k at member new own given_is none stands = (
+pub opens : {S : Type 0} (app : Application S) → OpensWithNone app
+opens {S} app given wf actions may placed placed_are id k at member new own given_is none disk same stands = (
   may_both given actions (Crashes id k at ∷ []) (new_cluster given) may (member, tt),
   placed_kept given actions (Crashes id k at ∷ []) placed no_proposal placed_are,
   record {
     member = member;
     own = own;
     given_is = given_is;
-    stands = subst (λ (s : Server). Represents s new.server)
-        (sym (ap (λ (c : Cluster). c.servers id) (after_both given actions (Crashes id k at ∷ []) (new_cluster given)) ∙ (changes id (crashed given id k at (server_after given actions id)) (after_actions given actions (new_cluster given))).own))
-        stands;
-    open_are = subst (λ (o : Open). AreOpen given (actions ++ Crashes id k at ∷ []) placed id o []) (sym none) (record { proposed = []; waiting = []; all = refl; awaited = tt; waits = tt; rises = tt });
+    stands = subst (λ (s : PackedServer S). Represents s new.server)
+        (sym (ap (λ (c : Cluster). server_packed app (c.servers id)) (after_both given actions (Crashes id k at ∷ []) (new_cluster given))
+        ∙ (ap (server_packed app) (changes id (crashed given id k at (server_after given actions id))
+        (after_actions given actions (new_cluster given))).own
+        ∙ crash_packed app given wf id member actions may k at)))
+        (crash_stands app given id k at (server_packed app (server_after given actions id)) disk same new.server stands);
+    open_are = subst (λ (o : Open). AreOpen given (actions ++ Crashes id k at ∷ []) placed id o []) (sym none)
+        (record { proposed = []; waiting = []; all = refl; awaited = tt; waits = tt; rises = tt });
   },
 )
   where

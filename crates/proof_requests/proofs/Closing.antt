@@ -236,15 +236,20 @@ module _ (given : Given) (wf : IsWellFormed given) (actions : List Action) (may 
   pub closes_settled : (e : Entry) → IsTold given actions id e → (asked : List Asked) (o : Open) → AreOpen given actions placed id o asked → Closed given actions placed id asked (settled_replies e.log_id o.proposed) (settled e.log_id o)
   closes_settled e t asked o h = closes_proposed given actions placed id (prefix_len (waits_upto e.log_id.index) o.proposed) (λ p. record { token = p.token; answer = answer_at e.log_id p }) (truth e t) asked o h
 
-  pub closes_executed : (es : List Entry) → AllByRecursion (IsTold given actions id) es → (asked : List Asked) (o : Open) → AreOpen given actions placed id o asked
-      → Closed given actions placed id asked (replies_of (executed_outputs es o.proposed)) (settled_all es o)
-  closes_executed [] t asked o h = closes_none given actions placed id asked o h
-  closes_executed (e ∷ es) t asked o h =
+  pub closes_executed : (S : Type 0) (es : List Entry) → AllByRecursion (IsTold given actions id) es → (asked : List Asked) (o : Open)
+      → AreOpen given actions placed id o asked
+      → Closed given actions placed id asked (replies_of {S = S} (executed_outputs es o.proposed)) (settled_all es o)
+  closes_executed S [] t asked o h = closes_none given actions placed id asked o h
+  closes_executed S (e ∷ es) t asked o h =
       subst (λ rs. Closed given actions placed id asked rs (settled_all (e ∷ es) o)) (sym made)
-      (closes_both given actions placed id asked (settled_replies e.log_id o.proposed) (replies_of (executed_outputs es (settled e.log_id o).proposed)) (settled_all (e ∷ es) o) (settled e.log_id o) (closes_settled e t.0 asked o h)
-      (λ left k. closes_executed es t.1 left (settled e.log_id o) k))
+      (closes_both given actions placed id asked (settled_replies e.log_id o.proposed)
+      (replies_of {S = S} (executed_outputs es (settled e.log_id o).proposed))
+      (settled_all (e ∷ es) o) (settled e.log_id o) (closes_settled e t.0 asked o h)
+      (λ left k. closes_executed S es t.1 left (settled e.log_id o) k))
     where
-      made : replies_of (executed_outputs (e ∷ es) o.proposed) ≡ settled_replies e.log_id o.proposed ++ replies_of (executed_outputs es (settled e.log_id o).proposed)
+      made : replies_of {S = S} (executed_outputs (e ∷ es) o.proposed)
+          ≡ settled_replies e.log_id o.proposed ++ replies_of {S = S} (executed_outputs es (settled e.log_id o).proposed)
       made =
-          replies_more (replies_out (settled_replies e.log_id o.proposed)) (executed_outputs es (settled e.log_id o).proposed)
-          ∙ ap (λ rs. rs ++ replies_of (executed_outputs es (settled e.log_id o).proposed)) (replies_are (settled_replies e.log_id o.proposed))
+          replies_more {S = S} (replies_out (settled_replies e.log_id o.proposed)) (executed_outputs es (settled e.log_id o).proposed)
+          ∙ ap (λ rs. rs ++ replies_of {S = S} (executed_outputs es (settled e.log_id o).proposed))
+          (replies_are S (settled_replies e.log_id o.proposed))

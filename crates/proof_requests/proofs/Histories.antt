@@ -7,7 +7,9 @@ use Rattle.std.proofs.lemmas.Bool.{cases_eq}
 use Rattle.raft_store.specs.declared.entry.Entry.{Entry}
 use Rattle.raft_store.specs.declared.entry.Value.{Value}
 use Rattle.raft_store.specs.declared.entry.Value.TheVariants.{Bytes}
+use Rattle.raft_codec.specs.Codec.{Codec}
 use Rattle.raft_node.specs.declared.given.Given.{Given}
+use Rattle.proof_packed.specs.Stores.{Application}
 use Rattle.raft_answers.specs.declared.answer.Answer.{Answer}
 use Rattle.raft_answers.specs.declared.answer.Answer.TheVariants.{Failed, NotLeader, Ok, Unknown}
 use Rattle.raft_answers.specs.declared.request.Operation.{Operation as Asks}
@@ -29,7 +31,8 @@ some_same a b e = cc
 write_read : (bytes : List ℕ) → ◌≡◌ {A = Asks} (Write bytes) Read → ⊥
 write_read bytes q = cc
 
-module _ {S R : Type 0} (m : Object S R) (given : Given) (actions : List Action) (placed : List Placed) (s : Cores) (h : AreBeside given actions placed s) (name : Exchange → ℕ) (named : AreNames s.done name) where
+module _ {S T R : Type 0} (m : Object T R) (app : Application S) (codec : Codec S) (given : Given) (actions : List Action) (placed : List Placed)
+    (s : Cores S) (h : AreBeside app codec given actions placed s) (name : Exchange → ℕ) (named : AreNames s.done name) where
   -- an exchange tells of this value's request
   abbrev Tells : Placed → Exchange → Type 0
   Tells w e = w.by ≡ Some (e.server, e.asked.number)

@@ -15,8 +15,7 @@ use Rattle.proof_clients.proofs.Slots.{here, there}
 use Rattle.proof_servers.specs.Servers.{Action, AllMayAct, Cluster, Crashes, MayTake, Step, Takes, after_action, after_actions, new_cluster, with_step}
 use Rattle.proof_servers.proofs.Follow.{changes}
 use Rattle.proof_answers.specs.Answers.{Proposed}
-use Rattle.raft_core.specs.Steps.{with_steps}
-use Rattle.proof_requests.specs.Actions.{flushes}
+use Rattle.proof_requests.specs.Actions.{after_steps, flushes}
 use Rattle.proof_requests.specs.Laws.{IsOwnAction}
 use Rattle.proof_requests.specs.Requests.{AllPairs, AreOpen, ArePlaced, Asked, IsAwaited, IsWaiting, Placed, server_after}
 use Rattle.proof_requests.proofs.Lists.{slot_behind, slot_less}
@@ -102,12 +101,13 @@ module _ (given : Given) (actions took : List Action) where
 
 -- Steps of a server
 module _ (given : Given) (id : ℕ) where
-  pub server_steps : (steps : List Step) (actions : List Action) → server_after given (actions ++ map (Takes id) steps) id ≡ with_steps given steps (server_after given actions id)
+  pub server_steps : (steps : List Step) (actions : List Action)
+      → server_after given (actions ++ map (Takes id) steps) id ≡ after_steps given steps (server_after given actions id)
   server_steps [] actions = ap (λ xs. server_after given xs id) (append-nil actions)
   server_steps (s ∷ steps) actions =
       ap (λ xs. server_after given xs id) (sym (append_assoc actions (Takes id s ∷ []) (map (Takes id) steps)))
       ∙ (server_steps steps (actions ++ Takes id s ∷ [])
-      ∙ ap (with_steps given steps) (ap (λ (c : Cluster). c.servers id) (after_both given actions (Takes id s ∷ []) (new_cluster given))
+      ∙ ap (after_steps given steps) (ap (λ (c : Cluster). c.servers id) (after_both given actions (Takes id s ∷ []) (new_cluster given))
       ∙ (changes id (with_step given s (server_after given actions id)) (after_actions given actions (new_cluster given))).own))
 
   pub steps_own : (steps : List Step) → AllByRecursion (IsOwnAction id) (map (Takes id) steps)

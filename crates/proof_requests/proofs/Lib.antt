@@ -1,6 +1,13 @@
 -- In reading order
+pub use Rattle.proof_answers.proofs as proof_answers_proofs
+pub use Rattle.raft_core.proofs as raft_core_proofs
+pub use Rattle.raft_core.proofs.proof_logs_proofs as proof_logs_proofs
+pub use Rattle.raft_core.proofs.proof_packed_servers_proofs as proof_packed_servers_proofs
+pub use Rattle.raft_core.proofs.raft_packed_server_proofs as raft_packed_server_proofs
 pub mod Lists  -- lists of which each element goes with that at its place
 pub mod More  -- what was so after some actions is so after more
+pub mod Kept  -- what was so of requests is so after more actions
+pub mod Packs  -- packed servers do what the model's do
 pub mod Left  -- what has left servers stays so
 pub mod Steps  -- a step that proposes values
 pub mod ReadSteps  -- what a step that reads does, and whose quorum it asks for
@@ -15,7 +22,6 @@ pub mod Silent  -- which steps answer, and whose answers wait
 pub mod Closing  -- answers to the first requests
 pub mod Batches  -- a batch of requests, and its values
 pub mod Sent  -- frames that leave servers
-pub mod Kept  -- what was so of requests is so after more actions
 pub mod Calls  -- each call keeps requests beside the model
 pub mod Writes  -- so does a write, by which requests are proposed
 pub mod ReadCalls  -- reads after more actions, and their answers
@@ -23,6 +29,7 @@ pub mod ReadsKept  -- each call keeps reads beside the model
 pub mod Queues  -- what is open once the first have their answers
 pub mod Others  -- other servers are as they were
 pub mod Beside  -- and so do servers with their clients
+pub mod NewLogs  -- also if one begins a new log
 pub mod Histories  -- what clients asked and were told is a history
 pub mod Promises  -- the laws
 -- Worked rows

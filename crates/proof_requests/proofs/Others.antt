@@ -16,14 +16,14 @@ use Rattle.raft_core.specs.Views.{CoreView}
 use Rattle.proof_requests.specs.Laws.{IsOwnAction}
 use Rattle.proof_requests.specs.OnDisk.{flushed_from, flushed_node, flushed_on, with_oldest}
 use Rattle.proof_requests.specs.Reading.{IsHanded, StartsBare}
-use Rattle.proof_requests.specs.ReadLaws.{AreReads, IsReader, pending}
+use Rattle.proof_requests.specs.ReadLaws.{AreReads, IsReader, answers_waiting, pending}
 use Rattle.proof_requests.specs.Requests.{Asked, server_after}
 use Rattle.proof_requests.proofs.Handed.{from_both}
 use Rattle.proof_requests.proofs.Kept.{NoCrash}
 use Rattle.proof_requests.proofs.Lists.{slot_none}
 use Rattle.proof_requests.proofs.More.{after_both}
 use Rattle.proof_requests.proofs.ReadCalls.{bare_more, reads_more}
-use Rattle.proof_requests.proofs.Silent.{answers_step, answers_waiting, silent}
+use Rattle.proof_requests.proofs.Silent.{answers_step, silent}
 
 -- an action of this server
 abbrev pub Concerns : ℕ → Action → Type 0
@@ -86,7 +86,8 @@ module _ (given : Given) (id other : ℕ) (apart : other ≢ id) where
   pub bare_other : (actions took : List Action) → AllByRecursion (Concerns id) took → StartsBare actions other → StartsBare (actions ++ took) other
   bare_other actions took h bare = bare_more given actions took other bare (no_start_of took h)
 
-  pub reader_other : (actions took : List Action) → AllByRecursion (Concerns id) took → (v : CoreView) (reading : List Asked) → IsReader given actions other v reading → IsReader given (actions ++ took) other v reading
+  pub reader_other : {S : Type 0} (actions took : List Action) → AllByRecursion (Concerns id) took → (v : CoreView S) (reading : List Asked)
+      → IsReader given actions other v reading → IsReader given (actions ++ took) other v reading
   reader_other actions took h v reading x = record {
     bare = bare_other actions took h x.bare;
     handed = subst (λ (n : NodeView). IsHanded n.store.applied v.executed) (sym (flushed_other actions took h)) x.handed;
@@ -120,7 +121,7 @@ module _ (given : Given) (actions : List Action) (id k at : ℕ) where
           let s : Server = record { node = stopped_node id d; reserved = d.moment; waiting = []; disk = d } in
           answers_step given s step ∙ silent given (stopped_node id d) step (λ e. cc)
 
-  pub reader_start : (v : CoreView) → v.executed ≡ None → v.reads ≡ no_reads → StartsBare actions id → IsReader given after id v []
+  pub reader_start : {S : Type 0} (v : CoreView S) → v.executed ≡ None → v.reads ≡ no_reads → StartsBare actions id → IsReader given after id v []
   reader_start v none_executed none_read bare = record {
     bare = bare_start id bare;
     handed = subst (IsHanded (flushed_node given after id).store.applied) (sym none_executed) tt;

@@ -40,12 +40,11 @@ use Rattle.proof_answers.specs.Waiting.{but_oldest, waiting, waiting_from, waiti
 use Rattle.proof_answers.proofs.Prefixes.{slot_last}
 use Rattle.proof_requests.specs.OnDisk.{flushed_node}
 use Rattle.proof_requests.specs.Reading.{IsHanded, StartsBare}
-use Rattle.proof_requests.specs.ReadLaws.{AreReadAnswered, AreReads, IsOpenRead, IsReadAnswered, IsReadTrue, IsRound, pending}
+use Rattle.proof_requests.specs.ReadLaws.{AreReadAnswered, AreReads, IsOpenRead, IsReadAnswered, IsReadTrue, IsRound, answers_waiting, pending}
 use Rattle.proof_requests.specs.Requests.{AllPairs, Asked, server_after}
 use Rattle.proof_requests.proofs.Kept.{NoCrash}
 use Rattle.proof_requests.proofs.Lists.{all_append, all_filter, all_in, all_map, none_in, pairs_append, pairs_drop, pairs_on, pairs_take, slot_behind, slot_less, split_at}
 use Rattle.proof_requests.proofs.Reading.{asked_more, read_done}
-use Rattle.proof_requests.proofs.Silent.{answers_waiting}
 use Rattle.proof_requests.proofs.Turns.{Turns, turns}
 
 -- Lists

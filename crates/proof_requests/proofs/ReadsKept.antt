@@ -1,6 +1,6 @@
 -- The laws of reads: each call.
-use Rattle.std.proofs.Common.{ℕ, zero, suc, ◌+◌, ◌<◌, ◌≤◌, ◌≡◌, ◌≢◌, ◌⊎◌, inl, inr, ⊎_elim, Bool, true, false, List, [], ◌∷◌, ◌++◌, length, take, map, arith, refl, sym, ap, ◌∙◌, subst, Option, None, Some, append-nil, append_assoc}
-use Rattle.std.specs.Prelude.{◌&&◌, ◌||◌, Contains, is_some, nat_eq, nat_lt, slice_get, if◌then◌else◌}
+use Rattle.std.proofs.Common.{ℕ, zero, suc, ◌+◌, ◌<◌, ◌≤◌, ◌≡◌, ◌≢◌, inl, inr, ⊎_elim, Bool, true, false, List, [], ◌∷◌, ◌++◌, length, take, map, arith, refl, sym, ap, ◌∙◌, subst, Option, None, Some, append-nil, append_assoc}
+use Rattle.std.specs.Prelude.{◌&&◌, ◌||◌, Contains, IfSome, is_some, nat_eq, nat_lt, slice_get, if◌then◌else◌}
 use Rattle.std.specs.List.{AllByRecursion, list_all}
 use Rattle.std.specs.Option.{option_map, option_to_list}
 use Rattle.std.proofs.lemmas.Bool.{and_parts}
@@ -12,8 +12,10 @@ use Rattle.raft_schedule.specs.declared.event.Event.{Event}
 use Rattle.raft_schedule.specs.declared.event.Start.{Start}
 use Rattle.raft_calls.specs.declared.lead.Answer as node_answer
 use Rattle.raft_calls.specs.declared.message.Message.{Message}
+use Rattle.raft_codec.specs.Codec.{Codec}
 use Rattle.raft_calls.specs.Held.{IsResting, IsRestingWhereRunning}
 use Rattle.raft_calls.specs.LeaderCalls.{answer_by, read_answer, read_refusal}
+use Rattle.raft_node.specs.declared.act.Act.{Act}
 use Rattle.raft_node.specs.declared.act.Act.TheVariants as acts
 use Rattle.raft_node.specs.declared.given.Given.{Given}
 use Rattle.raft_node.specs.declared.record.Executed.{Executed}
@@ -24,44 +26,50 @@ use Rattle.raft_node.specs.Runs.{world_after}
 use Rattle.raft_node.specs.WellFormed.{IsWellFormed}
 use Rattle.raft_answers.specs.declared.answer.Reply.{Reply}
 use Rattle.raft_answers.specs.declared.request.Operation.TheVariants.{Read}
-use Rattle.raft_answers.specs.Requests.{Open}
-use Rattle.raft_server.specs.declared.serving.Serving.{Serving}
-use Rattle.raft_server.specs.Represents.{Represents, StandsFor, said_by}
-use Rattle.raft_server.specs.Views.{ServerView}
+use Rattle.proof_packed.specs.Nodes.{PackedInstalled, PackedMessage, PackedNode, PackedRecords, bare_engine, packed_records}
+use Rattle.proof_packed.specs.Stores.{Application, packed}
+use Rattle.raft_core.specs.proof_packed_servers.Servers.{packed_flushed_first, server_packed}
+use Rattle.raft_core.specs.raft_packed_wire.Messages.{received as message_of}
+use Rattle.raft_core.specs.raft_packed_server.declared.serving.Serving.{Serving}
+use Rattle.raft_core.specs.raft_packed_server.Represents.{Represents, StandsFor, said_by}
+use Rattle.raft_core.specs.raft_packed_server.Views.{ServerView}
 use Rattle.raft_core.specs.declared.frame.Frame.TheVariants as frames
 use Rattle.raft_core.specs.declared.moves.Move.{Move}
-use Rattle.raft_core.specs.declared.moves.Move.TheVariants.{Beat, ChangeLearners, ChangeVoters, Fail, Stand, StepDown}
+use Rattle.raft_core.specs.declared.moves.Move.TheVariants.{Beat, ChangeLearners, ChangeVoters, Fail, FinishSnapshot, Stand, StepDown}
 use Rattle.raft_core.specs.declared.output.Output.{Output}
 use Rattle.raft_core.specs.declared.reads.Reader.{Reader}
-use Rattle.raft_core.specs.Calls.{Asks, AsksNode, Proposes, Releases, Ticks, Writes, WritesNow, engine_in, moment_in}
+use Rattle.raft_core.specs.Calls.{Asks, AsksNode, Proposes, Receives, Releases, Ticks, Writes, WritesNow, engine_in, moment_in}
 use Rattle.raft_core.specs.Laws.{read_replies_of}
 use Rattle.raft_core.specs.Reads.{ReadsView, RoundView, asked_for, count_over, count_overdue, handed_after, failed_left, failed_replies, is_free, most_rounds, not_over, read_left, read_replies, refused_left, refused_replies, round_of, under_way, with_heard, with_left}
-use Rattle.raft_core.specs.Steps.{act_of, steps_at, with_steps}
+use Rattle.raft_core.specs.Steps.{act_of, step_at, steps_at, with_steps}
 use Rattle.raft_core.specs.Views.{CoreView}
 use Rattle.raft_core.proofs.ReadsTold.{none_granted, told_by_message, told_by_release, ticked as told_by_tick, wrote as told_by_write}
 use Rattle.proof_clients.proofs.Sequences.{element}
 use Rattle.proof_clients.proofs.Slots.{slot_below}
 use Rattle.proof_servers.specs.Follows.{Follows}
-use Rattle.proof_servers.specs.Servers.{Action, AllMayAct, Crashes, Flushes, Server, Step, Takes, WaitingStep, after_actions, flushed_first, new_cluster, node_after, outputs_of, with_step}
+use Rattle.proof_servers.specs.Servers.{Action, AllMayAct, Crashes, Flushes, Server, Step, Takes, WaitingStep, after_actions, new_cluster, node_after}
+use Rattle.proof_servers.specs.Servers.{outputs_of, with_step}
 use Rattle.proof_servers.proofs.AtNode.{node_id}
 use Rattle.proof_servers.proofs.Follow.{ahead, servers_follow}
 use Rattle.proof_servers.proofs.Told.{nodes_rest}
 use Rattle.proof_answers.specs.Answers.{node_then}
 use Rattle.proof_answers.proofs.Prefixes.{slot_cases, slot_last, take_more}
-use Rattle.proof_requests.specs.Actions.{Initializes, asking, flushes, initialized, proposed, received, released, taking, ticked, written}
-use Rattle.proof_requests.specs.Laws.{ReceivesSent}
+use Rattle.proof_requests.specs.Actions.{AreSteps, Initializes, flushes, initialized, received, released, taking, ticked, written}
 use Rattle.proof_requests.specs.OnDisk.{flushed_node}
 use Rattle.proof_requests.specs.Reading.{IsAskedFor, IsHanded, StartsBare}
-use Rattle.proof_requests.specs.ReadLaws.{AdmitsOneRead, AreReadAnswered, AreReads, IsOpenRead, IsReader, IsRound, KeepsReads, ReadsAreKept, pending}
+use Rattle.proof_requests.specs.ReadLaws.{AdmitsOneRead, AreReadAnswered, AreReads, IsOpenRead, IsReader, IsRound, KeepsReads, ReadsAreKept}
+use Rattle.proof_requests.specs.ReadLaws.{answers_waiting, pending}
 use Rattle.proof_requests.specs.Requests.{AllPairs, Asked, IsCore, Placed, server_after}
 use Rattle.proof_requests.proofs.Handed.{flushed_still, from_both, handed_flush, last_index}
-use Rattle.proof_requests.proofs.Kept.{NoCrash, flushes_own, own_no_crash, server_steps, steps_may, steps_own}
+use Rattle.proof_requests.proofs.Kept.{NoCrash, flushes_own, own_no_crash, server_steps, steps_own}
 use Rattle.proof_requests.proofs.Lists.{all_append, all_in, contains_take, pairs_append}
 use Rattle.proof_requests.proofs.More.{may_both, server_there}
+use Rattle.proof_requests.proofs.Packs.{IsTaking, TakesNone, acts_at, acts_only, asked_acts, asked_are, engine_bare, is_taking, moves_plain}
+use Rattle.proof_requests.proofs.Packs.{proposed_acts, proposed_are}
+use Rattle.proof_requests.proofs.Packs.{said_all, said_answers, said_first, stands_after, with_heard_bare}
 use Rattle.proof_requests.proofs.ReadCalls.{ReadsClosed, bare_more, none_left, pairs_long, pending_answered, pending_heard, pending_not_over, read_both, read_failed, read_none, read_over, left_of, read_refused, reads_heard, reads_left_by, reads_more, refused_answered, refused_reads}
 use Rattle.proof_requests.proofs.ReadSteps.{groups_are, read_says}
-use Rattle.proof_requests.proofs.Sent.{taken_sent}
-use Rattle.proof_requests.proofs.Silent.{ArePlain, IsPlain, answers_flushed, answers_step, answers_steps, answers_waiting, flushed_taking}
+use Rattle.proof_requests.proofs.Silent.{ArePlain, IsPlain, answers_flushed, answers_step, answers_steps, flushed_taking}
 use Rattle.proof_requests.proofs.Told.{all_flushed, may_flush, none_flushed, server_flushed}
 
 -- what moves do is plain
@@ -70,12 +78,13 @@ move_plain Stand = ((λ e. cc), (λ s e. cc))
 move_plain Beat = ((λ e. cc), (λ s e. cc))
 move_plain (Fail target) = ((λ e. cc), (λ s e. cc))
 move_plain StepDown = ((λ e. cc), (λ s e. cc))
+move_plain FinishSnapshot = ((λ e. cc), (λ s e. cc))
 move_plain (ChangeLearners learners) = ((λ e. cc), (λ s e. cc))
 move_plain (ChangeVoters groups learners) = ((λ e. cc), (λ s e. cc))
 
-moves_plain : (at : ℕ) (ms : List Move) → ArePlain (steps_at at (map act_of ms))
-moves_plain at [] = tt
-moves_plain at (m ∷ ms) = (move_plain m, moves_plain at ms)
+all_plain : (at : ℕ) (ms : List Move) → ArePlain (acts_at at (map act_of ms))
+all_plain at [] = tt
+all_plain at (m ∷ ms) = (move_plain m, all_plain at ms)
 
 -- Rounds stay as they are for what the node has answered
 
@@ -113,21 +122,24 @@ module _ (given : Given) (actions : List Action) (id : ℕ) where
     reads = reads_more given actions (map (Takes id) steps) id (own_no_crash id (map (Takes id) steps) (steps_own given id steps)) r reading h.reads;
   }
 
-module _ (given : Given) (wf : IsWellFormed given) (actions : List Action) (may : AllMayAct given actions (new_cluster given)) (placed : List Placed) (id : ℕ) (asked reading : List Asked) (old new : CoreView) (out : List Output)
-    (core : IsCore given actions placed id old asked) (reader : IsReader given actions id old reading) where
+module _ {S : Type 0} (app : Application S) (given : Given) (wf : IsWellFormed given) (actions : List Action) (placed : List Placed) (id : ℕ)
+    (asked reading : List Asked) (old new : CoreView S) (out : List (Output S)) (core : IsCore app given actions placed id old asked)
+    (reader : IsReader given actions id old reading) where
   abbrev Kept : List Action → Type 0
   Kept took = KeepsReads given actions id reading out new took
 
-  abbrev bag : List Message
-  bag = (after_actions given actions (new_cluster given)).released.bag
-
   keeps : (took : List Action) → StartsBare (actions ++ took) id → IsHanded (flushed_node given (actions ++ took) id).store.applied new.executed
-      → answers_waiting (server_after given (actions ++ took) id).waiting ≡ pending new.reads.rounds → (rs : List Reply) (r : ReadsView) → read_replies_of out ≡ rs → new.reads ≡ r
-      → ReadsClosed given (actions ++ took) id reading rs r → Kept took
-  keeps took bare handed p rs r e q c = record {
-    left = c.left;
-    answered = subst (λ (xs : List Reply). AreReadAnswered given (actions ++ took) id reading xs c.left) (sym e) c.answered;
-    reader = record { bare = bare; handed = handed; pending_is = p; reads = subst (λ (v : ReadsView). AreReads given (actions ++ took) id v c.left) (sym q) c.reads };
+      → answers_waiting (server_after given (actions ++ took) id).waiting ≡ pending new.reads.rounds → (rs : List Reply) (r : ReadsView)
+      → read_replies_of out ≡ rs → new.reads ≡ r → ReadsClosed given (actions ++ took) id reading rs r → Kept took
+  keeps took bare handed p rs r e q k = record {
+    left = k.left;
+    answered = subst (λ (xs : List Reply). AreReadAnswered given (actions ++ took) id reading xs k.left) (sym e) k.answered;
+    reader = record {
+      bare = bare;
+      handed = handed;
+      pending_is = p;
+      reads = subst (λ (v : ReadsView). AreReads given (actions ++ took) id v k.left) (sym q) k.reads;
+    };
   }
 
   first : Facts given actions id old.executed old.reads reading
@@ -142,47 +154,76 @@ module _ (given : Given) (wf : IsWellFormed given) (actions : List Action) (may 
     now : Facts given (actions ++ took) id old.executed old.reads reading
     now = plain_facts given actions id old.executed old.reads reading first steps plain
 
-    keeps_plain : new.executed ≡ old.executed → (rs : List Reply) (r : ReadsView) → read_replies_of out ≡ rs → new.reads ≡ r → pending r.rounds ≡ pending old.reads.rounds
-        → ReadsClosed given (actions ++ took) id reading rs r → Kept took
-    keeps_plain x rs r e q p c =
-        keeps took now.bare (subst (IsHanded (flushed_node given (actions ++ took) id).store.applied) (sym x) now.handed) (now.pend ∙ (sym p ∙ ap (λ (v : ReadsView). pending v.rounds) (sym q))) rs r e q c
+    keeps_plain : new.executed ≡ old.executed → (rs : List Reply) (r : ReadsView) → read_replies_of out ≡ rs → new.reads ≡ r
+        → pending r.rounds ≡ pending old.reads.rounds → ReadsClosed given (actions ++ took) id reading rs r → Kept took
+    keeps_plain x rs r e q p k =
+        keeps took now.bare (subst (IsHanded (flushed_node given (actions ++ took) id).store.applied) (sym x) now.handed)
+        (now.pend ∙ (sym p ∙ ap (λ (v : ReadsView). pending v.rounds) (sym q))) rs r e q k
 
     keeps_same : new.executed ≡ old.executed → read_replies_of out ≡ [] → new.reads ≡ old.reads → Kept took
     keeps_same x e q = keeps_plain x [] old.reads e q refl (read_none given (actions ++ took) id reading old.reads now.reads)
 
-  pub initializes : Initializes old out new → Kept (taking id (initialized old))
-  initializes m =
-      keeps_same (initialized old) (((λ e. cc), (λ s e. cc)), tt) (ap (λ (v : CoreView). v.executed) m.1.rest) (ap read_replies_of m.0) (ap (λ (v : CoreView). v.reads) m.1.rest)
+  pub initializes : Initializes app old out new → (steps : List Step) → AreSteps app steps (initialized app old) → Kept (taking id steps)
+  initializes m steps same =
+      subst (λ xs. Kept (taking id xs)) (sym (acts_only app old.clock (acts.Initialize ∷ []) (tt, tt) steps same))
+      (keeps_same (acts_at old.clock (acts.Initialize ∷ [])) (((λ e. cc), (λ s e. cc)), tt) (ap (λ (v : CoreView S). v.executed) m.1.rest)
+      (ap read_replies_of m.0) (ap (λ (v : CoreView S). v.reads) m.1.rest))
 
-  pub ticks : (t : Ticks old out new) → Kept (taking id (ticked old out new t))
-  ticks t =
-      let plain : ArePlain (steps_at new.clock (map act_of t.moves)) = moves_plain new.clock t.moves in
-      keeps_plain (steps_at new.clock (map act_of t.moves)) plain (ap (λ (v : CoreView). v.executed) t.rest)
-      (refused_replies t.answers.gone old.reads ++ failed_replies t.upto (refused_left t.answers.gone old.reads)) (failed_left t.upto (refused_left t.answers.gone old.reads)) (told_by_tick old new out t) t.answers.reads_left
-      (pending_answered (count_overdue t.upto (refused_left t.answers.gone old.reads)) (refused_left t.answers.gone old.reads).rounds ∙ pending_refused t.answers.gone old.reads)
-      (read_both given _ id reading (refused_replies t.answers.gone old.reads) (failed_replies t.upto (refused_left t.answers.gone old.reads)) (refused_left t.answers.gone old.reads)
-      (failed_left t.upto (refused_left t.answers.gone old.reads))
-      (read_refused given _ id t.answers.gone old.reads reading (now (steps_at new.clock (map act_of t.moves)) plain).reads)
-      (λ left h. read_failed given _ id t.upto (refused_left t.answers.gone old.reads) left h))
+  pub ticks : (c : Codec S) (t : Ticks app old out new) (steps : List Step) → AreSteps app steps (ticked app old out new t) → Kept (taking id steps)
+  ticks c t steps same =
+      let moved : List Step = acts_at new.clock (map act_of t.moves) in
+      let plain : ArePlain moved = all_plain new.clock t.moves in
+      let refused : ReadsView = refused_left t.answers.gone old.reads in
+      subst (λ xs. Kept (taking id xs)) (sym (acts_only app new.clock (map act_of t.moves) (moves_plain t.moves) steps same))
+      (keeps_plain moved plain (ap (λ (v : CoreView S). v.executed) t.rest)
+      (refused_replies t.answers.gone old.reads ++ failed_replies t.upto refused) (failed_left t.upto refused) (told_by_tick app c old new out t)
+      t.answers.reads_left (pending_answered (count_overdue t.upto refused) refused.rounds ∙ pending_refused t.answers.gone old.reads)
+      (read_both given _ id reading (refused_replies t.answers.gone old.reads) (failed_replies t.upto refused) refused (failed_left t.upto refused)
+      (read_refused given _ id t.answers.gone old.reads reading (now moved plain).reads)
+      (λ left h. read_failed given _ id t.upto refused left h)))
 
-  pub receives : (bytes : List ℕ) (r : ReceivesSent given actions bytes old out new) → Kept (taking id (received old out new bytes r.1))
-  receives bytes (from, (frames.Packet p, is, (m, e, t))) =
-      let steps : List Step = steps_at old.clock (acts.Take m ∷ []) in
-      let plain : ArePlain steps = (((λ e. cc), (λ s e. cc)), tt) in
-      let heard : ReadsView = with_heard m old.reads in
-      let mid : ReadsView = refused_left t.answers.gone heard in
-      let may_now : AllMayAct given (actions ++ map (Takes id) steps) (new_cluster given) =
-      may_both given actions (map (Takes id) steps) (new_cluster given) may (steps_may given id steps (after_actions given actions (new_cluster given)) core.member ((taken_sent bag bytes p m from is.0 is.1 e, t.to ∙ core.own), tt)) in
-      let reads : AreReads given (actions ++ map (Takes id) steps) id heard reading = reads_heard given actions id old.clock m old.reads reading (now steps plain).reads in
-      let pend : pending mid.rounds ≡ pending old.reads.rounds = pending_refused t.answers.gone heard ∙ pending_heard m old.reads.rounds in
-      keeps_plain steps plain (ap (λ (v : CoreView). v.executed) t.rest) (refused_replies t.answers.gone heard ++ read_replies old.executed mid) (read_left old.executed mid) (told_by_message m old new out t) t.answers.reads_left
-      (pending_read old.executed mid ∙ pend)
-      (read_both given _ id reading (refused_replies t.answers.gone heard) (read_replies old.executed mid) mid (read_left old.executed mid) (read_refused given _ id t.answers.gone heard reading reads)
-      (λ left h. read_over given wf (actions ++ map (Takes id) steps) may_now id old.executed mid left h (now steps plain).bare (now steps plain).handed))
-  receives bytes (from, (frames.PreVote ask, is, t)) =
-      keeps_same [] tt (ap (λ (v : CoreView). v.executed) t.rest) (ap read_replies_of t.leaves ∙ none_granted t.replies) (ap (λ (v : CoreView). v.reads) t.rest)
-  receives bytes (from, (frames.PreVoteReply reply, is, t)) =
-      keeps_same (steps_at old.clock (map act_of t.moves)) (moves_plain old.clock t.moves) (ap (λ (v : CoreView). v.executed) t.moved.rest) (ap read_replies_of t.leaves) (ap (λ (v : CoreView). v.reads) t.moved.rest)
+  pub receives : (c : Codec S) (bytes : List ℕ) (r : Receives app c bytes old out new) (steps : List Step)
+      → AreSteps app steps (received app old out new c bytes r) → AllMayAct given (actions ++ taking id steps) (new_cluster given)
+      → Kept (taking id steps)
+  receives c bytes (frames.Packet p, is, (m, e, t)) steps same may_now =
+      let x : IsTaking app old.clock (message_of app m) steps = is_taking app old.clock (message_of app m) steps same in
+      let heard_as : with_heard (message_of app m).message old.reads ≡ with_heard x.message old.reads =
+      ap (λ (y : PackedMessage S). with_heard y.message old.reads) (sym x.brings) ∙ with_heard_bare x.message old.reads in
+      taken x.message heard_as (subst (λ xs. AllMayAct given (actions ++ taking id xs) (new_cluster given)) x.steps_are may_now) x.steps_are
+    where
+      -- by the model's message
+      taken : (x : Message) → with_heard (message_of app m).message old.reads ≡ with_heard x old.reads
+          → AllMayAct given (actions ++ taking id (acts_at old.clock (acts.Take x ∷ []))) (new_cluster given)
+          → steps ≡ acts_at old.clock (acts.Take x ∷ []) → Kept (taking id steps)
+      taken x heard_as may steps_are =
+          let taking_it : List Step = acts_at old.clock (acts.Take x ∷ []) in
+          let plain : ArePlain taking_it = (((λ e. cc), (λ s e. cc)), tt) in
+          let heard : ReadsView = with_heard x old.reads in
+          let mid : ReadsView = refused_left t.answers.gone heard in
+          let reads : AreReads given (actions ++ map (Takes id) taking_it) id heard reading =
+          reads_heard given actions id old.clock x old.reads reading (now taking_it plain).reads in
+          let pend : pending mid.rounds ≡ pending old.reads.rounds = pending_refused t.answers.gone heard ∙ pending_heard x old.reads.rounds in
+          let told : read_replies_of out ≡ refused_replies t.answers.gone heard ++ read_replies old.executed mid =
+          told_by_message app c (message_of app m) old new out t
+          ∙ ap (λ (v : ReadsView). refused_replies t.answers.gone v ++ read_replies old.executed (refused_left t.answers.gone v)) heard_as in
+          let left_is : new.reads ≡ read_left old.executed mid =
+          t.answers.reads_left ∙ ap (λ (v : ReadsView). read_left old.executed (refused_left t.answers.gone v)) heard_as in
+          subst (λ xs. Kept (taking id xs)) (sym steps_are)
+          (keeps_plain taking_it plain (ap (λ (v : CoreView S). v.executed) t.rest)
+          (refused_replies t.answers.gone heard ++ read_replies old.executed mid) (read_left old.executed mid) told left_is
+          (pending_read old.executed mid ∙ pend)
+          (read_both given _ id reading (refused_replies t.answers.gone heard) (read_replies old.executed mid) mid (read_left old.executed mid)
+          (read_refused given _ id t.answers.gone heard reading reads)
+          (λ left h. read_over given wf (actions ++ map (Takes id) taking_it) may id old.executed mid left h (now taking_it plain).bare
+          (now taking_it plain).handed)))
+  receives c bytes (frames.PreVote ask, is, t) steps same may_now =
+      subst (λ xs. Kept (taking id xs)) (sym (acts_only app old.clock [] tt steps same))
+      (keeps_same [] tt (ap (λ (v : CoreView S). v.executed) t.rest) (ap read_replies_of t.leaves ∙ none_granted S t.replies)
+      (ap (λ (v : CoreView S). v.reads) t.rest))
+  receives c bytes (frames.PreVoteReply reply, is, t) steps same may_now =
+      subst (λ xs. Kept (taking id xs)) (sym (acts_only app old.clock (map act_of t.moves) (moves_plain t.moves) steps same))
+      (keeps_same (acts_at old.clock (map act_of t.moves)) (all_plain old.clock t.moves) (ap (λ (v : CoreView S). v.executed) t.moved.rest)
+      (ap read_replies_of t.leaves) (ap (λ (v : CoreView S). v.reads) t.moved.rest))
 
 -- Writes
 
@@ -230,18 +271,14 @@ all_under_way P os h = by (nat_eq (asked_for os) 0)
     by true = tt
     by false = h
 
-module _ (given : Given) (wf : IsWellFormed given) (actions : List Action) (may : AllMayAct given actions (new_cluster given)) (id : ℕ) (member : Contains given.ids id) where
+module _ {S : Type 0} (app : Application S) (given : Given) (wf : IsWellFormed given) (actions : List Action)
+    (may : AllMayAct given actions (new_cluster given)) (id : ℕ) (member : Contains given.ids id) where
   abbrev server : Server
   server = server_after given actions id
 
-  -- the server's node, which runs
-  engine_is : (v : Option Serving) → StandsFor server v → (e : EngineView) → engine_in v ≡ Some e → server.node.engine ≡ Some e
-  engine_is None s e q = absurd s
-  engine_is (Some v) s e q = ap (λ (n : NodeView). n.engine) (sym s.node) ∙ q
-
-  moment_is : (v : Option Serving) (s : Server) → StandsFor s v → moment_in v ≡ s.node.moment
+  moment_is : (v : Option (Serving S)) (s : Server) → StandsFor (server_packed app s) v → moment_in v ≡ s.node.moment
   moment_is None s h = absurd h
-  moment_is (Some v) s h = ap (λ (n : NodeView). n.moment) h.node
+  moment_is (Some v) s h = ap (λ (n : PackedNode S). n.moment) h.node
 
   own_node : server.node.id ≡ id
   own_node =
@@ -252,8 +289,24 @@ module _ (given : Given) (wf : IsWellFormed given) (actions : List Action) (may 
   rests : (e : EngineView) → server.node.engine ≡ Some e → e.machine.core.output.items ≡ []
   rests e q = let r : IsResting e = subst IsRestingWhereRunning q (nodes_rest given wf actions may id member).resting in r.queue
 
+  -- the server's node, which runs
+  bare_engine_is : option_map bare_engine server.node.engine ≡ server.node.engine
+  bare_engine_is = engine_bare server.node.engine (go server.node.engine rests)
+    where
+      go : (o : Option EngineView) → ((e : EngineView) → o ≡ Some e → e.machine.core.output.items ≡ [])
+          → IfSome o (λ e. e.machine.core.output.items ≡ [])
+      go None f = tt
+      go (Some e) f = f e refl
+
+  engine_is : (v : Option (Serving S)) → StandsFor (server_packed app server) v → (e : EngineView) → engine_in v ≡ Some e
+      → server.node.engine ≡ Some e
+  engine_is None s e q = absurd s
+  engine_is (Some v) s e q = sym bare_engine_is ∙ (ap (λ (n : PackedNode S). n.engine) (sym s.node) ∙ q)
+
   -- the step that asks
-  module _ (at own : ℕ) (own_is : own ≡ id) (view : ServerView) (same : view.given ≡ given) (stands : Represents server view) (old : ReadsView) (view' : ServerView) (new : ReadsView) (asks : AsksNode at own view old view' new) where
+  module _ (at own : ℕ) (own_is : own ≡ id) (view : ServerView S) (same : view.given ≡ given) (stands : Represents (server_packed app server) view)
+      (old : ReadsView)
+      (view' : ServerView S) (new : ReadsView) (asks : AsksNode app at own view old view' new) where
     abbrev step : Step
     step = record { act = acts.Read; at = at }
 
@@ -263,14 +316,17 @@ module _ (given : Given) (wf : IsWellFormed given) (actions : List Action) (may 
     runs : server.node.engine ≡ Some asks.engine
     runs = engine_is view.serving stands asks.engine asks.runs
 
-    stands_now : Represents (with_step given step server) view'
-    stands_now = subst (λ g. Represents (with_steps g (step ∷ []) server) view') same (asks.takes.steps server stands)
-
     server_now : server_after given after id ≡ with_step given step server
     server_now = server_steps given id (step ∷ []) actions
 
-    pub stands_after : Represents (server_after given after id) view'
-    stands_after = subst (λ (s : Server). Represents s view') (sym server_now) stands_now
+    may_after : AllMayAct given after (new_cluster given)
+    may_after = may_both given actions (Takes id step ∷ []) (new_cluster given) may ((member, tt), tt)
+
+    stands_now : Represents (server_packed app (server_after given after id)) view'
+    stands_now =
+        stands_after app given wf id member (step ∷ []) (steps_at app at (acts.Read ∷ [])) refl actions may_after view'
+        (subst (λ g. Represents (with_steps app g (steps_at app at (acts.Read ∷ [])) (server_packed app server)) view') same
+        (asks.takes.steps (server_packed app server) stands))
 
     says : read_answer server.node.id asks.engine ≡ Some asks.answer
     says = subst (λ n. read_answer n asks.engine ≡ Some asks.answer) (own_is ∙ sym own_node) asks.answers
@@ -282,7 +338,7 @@ module _ (given : Given) (wf : IsWellFormed given) (actions : List Action) (may 
     then_is = ap (λ (s : Server). s.node) (server_there given actions (Takes id step ∷ []) id)
 
     moment_now : moment_in view'.serving ≡ (node_after given server.node step).moment
-    moment_now = moment_is view'.serving (with_step given step server) stands_now
+    moment_now = moment_is view'.serving (server_after given after id) stands_now ∙ ap (λ (s : Server). s.node.moment) server_now
 
     no_crash : NoCrash id (Takes id step ∷ [])
     no_crash = own_no_crash id (Takes id step ∷ []) (refl, tt)
@@ -355,70 +411,112 @@ module _ (given : Given) (wf : IsWellFormed given) (actions : List Action) (may 
         no_start zero when start e = let z : step ≡ record { act = acts.Restart start; at = when } = cc in let y : acts.Read ≡ acts.Restart start = ap (λ (x : Step). x.act) z in cc
         no_start (suc j) when start e = cc
 
-proposed_plain : (at : ℕ) (server : ServerView) (o : Open) (told : List Reply) (server' : ServerView) (o' : Open) (replies : List Reply) → (p : Proposes at server o told server' o' replies) → ArePlain (proposed at server o told server' o' replies p)
-proposed_plain at server o told server' o' replies (inl none) = tt
-proposed_plain at server o told server' o' replies (inr (inl all)) = tt
-proposed_plain at server o told server' o' replies (inr (inr (first, next, b))) = (((λ e. cc), (λ s e. cc)), tt)
-
-module _ (given : Given) (wf : IsWellFormed given) (actions : List Action) (may : AllMayAct given actions (new_cluster given)) (placed : List Placed) (id : ℕ) (asked reading : List Asked) (old new : CoreView) (out : List Output)
-    (core : IsCore given actions placed id old asked) (reader : IsReader given actions id old reading) where
-  module _ (w : WritesNow old out new) where
+module _ {S : Type 0} (app : Application S) (given : Given) (wf : IsWellFormed given) (actions : List Action)
+    (may : AllMayAct given actions (new_cluster given))
+    (placed : List Placed) (id : ℕ) (asked reading : List Asked) (old new : CoreView S) (out : List (Output S))
+    (core : IsCore app given actions placed id old asked) (reader : IsReader given actions id old reading) (c : Codec S) where
+  module _ (w : WritesNow app c old out new) where
     abbrev left : List Asked
     left = left_of w.refuses.gone reading
 
+    abbrev asks_of : Asks app old.clock old.id old.server w.reads w.asked new.reads → List Step
+    asks_of a = acts_at old.clock (asked_acts app old.clock old.id old.server w.reads w.asked new.reads a)
+
+    abbrev proposes_of : Proposes app old.clock w.asked w.kept w.lost w.server new.requests w.replies → List Step
+    proposes_of p = acts_at old.clock (proposed_acts app old.clock w.asked w.kept w.lost w.server new.requests w.replies p)
+
     abbrev first_steps : List Step
-    first_steps = asking old.clock old.id old.server w.reads w.asked new.reads w.asks
+    first_steps = asks_of w.asks
 
     abbrev next_steps : List Step
-    next_steps = proposed old.clock w.asked w.kept w.lost w.server new.requests w.replies w.proposes
+    next_steps = proposes_of w.proposes
 
     abbrev taken : List Action
     taken = map (Takes id) (first_steps ++ next_steps)
+
+    proposed_plain : (p : Proposes app old.clock w.asked w.kept w.lost w.server new.requests w.replies) → ArePlain (proposes_of p)
+    proposed_plain (inl none) = tt
+    proposed_plain (inr (inl all)) = tt
+    proposed_plain (inr (inr (first, next, b))) = (((λ e. cc), (λ s e. cc)), tt)
+
+    -- the call's steps are these, packed, and no others are
+    steps_are : (steps : List Step) → AreSteps app steps (written app c old out new (inr w)) → steps ≡ first_steps ++ next_steps
+    steps_are steps same =
+        let first : List Act = asked_acts app old.clock old.id old.server w.reads w.asked new.reads w.asks in
+        let next : List Act = proposed_acts app old.clock w.asked w.kept w.lost w.server new.requests w.replies w.proposes in
+        let a = asked_are app old.clock old.id old.server w.reads w.asked new.reads w.asks in
+        let p = proposed_are app old.clock w.asked w.kept w.lost w.server new.requests w.replies w.proposes in
+        let both : written app c old out new (inr w) ≡ steps_at app old.clock (first ++ next) =
+        (λ i. a.0 i ++ p.0 i) ∙ sym (map-append (step_at app old.clock) first next) in
+        acts_only app old.clock (first ++ next) (all_append TakesNone first next a.1 p.1) steps (same ∙ both)
+        ∙ map-append (λ (act : Act). let s : Step = record { act = act; at = old.clock } in s) first next
 
     refused : Facts given actions id old.executed w.reads left
     refused = record {
       bare = reader.bare;
       handed = reader.handed;
       pend = reader.pending_is ∙ (sym (pending_refused w.refuses.gone old.reads) ∙ ap (λ (r : ReadsView). pending r.rounds) (sym w.refuses.left));
-      reads = subst (λ (r : ReadsView). AreReads given actions id r left) (sym w.refuses.left) (refused_reads given actions id w.refuses.gone old.reads reading reader.reads);
+      reads = subst (λ (r : ReadsView). AreReads given actions id r left) (sym w.refuses.left)
+          (refused_reads given actions id w.refuses.gone old.reads reading reader.reads);
     }
 
-    after_asking : (a : Asks old.clock old.id old.server w.reads w.asked new.reads) → Facts given (actions ++ map (Takes id) (asking old.clock old.id old.server w.reads w.asked new.reads a)) id old.executed new.reads left
+    after_asking : (a : Asks app old.clock old.id old.server w.reads w.asked new.reads)
+        → Facts given (actions ++ map (Takes id) (asks_of a)) id old.executed new.reads left
     after_asking (inl none) =
-        subst (λ (r : ReadsView). Facts given (actions ++ []) id old.executed r left) (sym none.1) (plain_facts given actions id old.executed w.reads left refused [] tt)
+        subst (λ (r : ReadsView). Facts given (actions ++ []) id old.executed r left) (sym none.1)
+        (plain_facts given actions id old.executed w.reads left refused [] tt)
     after_asking (inr asks) =
         let step : Step = record { act = acts.Read; at = old.clock } in
         record {
-          bare = asked_bare given wf actions may id core.member old.clock old.id core.own old.server core.given_is core.stands w.reads w.asked new.reads asks reader.bare;
+          bare = asked_bare app given wf actions may id core.member old.clock old.id core.own old.server core.given_is core.stands w.reads w.asked
+              new.reads asks
+              reader.bare;
           handed = subst (λ (n : NodeView). IsHanded n.store.applied old.executed) (sym (flushed_steps given actions id (step ∷ []))) reader.handed;
-          pend = asked_pending given wf actions may id core.member old.clock old.id core.own old.server core.given_is core.stands w.reads w.asked new.reads asks refused.pend;
-          reads = asked_reads given wf actions may id core.member old.clock old.id core.own old.server core.given_is core.stands w.reads w.asked new.reads asks left refused.reads;
+          pend = asked_pending app given wf actions may id core.member old.clock old.id core.own old.server core.given_is core.stands w.reads w.asked
+              new.reads
+              asks refused.pend;
+          reads = asked_reads app given wf actions may id core.member old.clock old.id core.own old.server core.given_is core.stands w.reads w.asked
+              new.reads
+              asks left refused.reads;
         }
 
     same : (actions ++ map (Takes id) first_steps) ++ map (Takes id) next_steps ≡ actions ++ taken
-    same = append_assoc actions (map (Takes id) first_steps) (map (Takes id) next_steps) ∙ ap (λ xs. actions ++ xs) (sym (map-append (Takes id) first_steps next_steps))
+    same =
+        append_assoc actions (map (Takes id) first_steps) (map (Takes id) next_steps)
+        ∙ ap (λ xs. actions ++ xs) (sym (map-append (Takes id) first_steps next_steps))
 
     facts : Facts given (actions ++ taken) id old.executed new.reads left
     facts =
         subst (λ xs. Facts given xs id old.executed new.reads left) same
         (plain_facts given (actions ++ map (Takes id) first_steps) id old.executed new.reads left (after_asking w.asks) next_steps
-        (proposed_plain old.clock w.asked w.kept w.lost w.server new.requests w.replies w.proposes))
+        (proposed_plain w.proposes))
 
     executed_is : new.executed ≡ old.executed
-    executed_is = ap (λ (v : CoreView). v.executed) w.rest
+    executed_is = ap (λ (v : CoreView S). v.executed) w.rest
 
-    pub writes_now : KeepsReads given actions id reading out new taken
+    writes_now : KeepsReads given actions id reading out new taken
     writes_now = record {
       left = left;
-      answered = subst (λ (rs : List Reply). AreReadAnswered given (actions ++ taken) id reading rs left) (sym (told_by_write old new out w))
-          (refused_answered given (actions ++ taken) id w.refuses.gone old.reads reading (reads_more given actions taken id (own_no_crash id taken (steps_own given id (first_steps ++ next_steps))) old.reads reading reader.reads));
-      reader = record { bare = facts.bare; handed = subst (IsHanded (flushed_node given (actions ++ taken) id).store.applied) (sym executed_is) facts.handed; pending_is = facts.pend; reads = facts.reads };
+      answered = subst (λ (rs : List Reply). AreReadAnswered given (actions ++ taken) id reading rs left) (sym (told_by_write app c old new out w))
+          (refused_answered given (actions ++ taken) id w.refuses.gone old.reads reading
+          (reads_more given actions taken id (own_no_crash id taken (steps_own given id (first_steps ++ next_steps))) old.reads reading
+          reader.reads));
+      reader = record {
+        bare = facts.bare;
+        handed = subst (IsHanded (flushed_node given (actions ++ taken) id).store.applied) (sym executed_is) facts.handed;
+        pending_is = facts.pend;
+        reads = facts.reads;
+      };
     }
 
-  pub writes : (w : Writes old out new) → KeepsReads given actions id reading out new (taking id (written old out new w))
-  writes (inl none) =
-      keeps_same given wf actions may placed id asked reading old new out core reader [] tt (ap (λ (v : CoreView). v.executed) none.1) (ap read_replies_of none.0) (ap (λ (v : CoreView). v.reads) none.1)
-  writes (inr w) = writes_now w
+  pub writes : (w : Writes app c old out new) (steps : List Step) → AreSteps app steps (written app c old out new w)
+      → KeepsReads given actions id reading out new (taking id steps)
+  writes (inl none) steps same =
+      subst (λ xs. KeepsReads given actions id reading out new (taking id xs)) (sym (acts_only app old.clock [] tt steps same))
+      (keeps_same app given wf actions placed id asked reading old new out core reader [] tt (ap (λ (v : CoreView S). v.executed) none.1)
+      (ap read_replies_of none.0) (ap (λ (v : CoreView S). v.reads) none.1))
+  writes (inr w) steps same =
+      subst (λ xs. KeepsReads given actions id reading out new (taking id xs)) (sym (steps_are w steps same)) (writes_now w)
 
 -- Releases
 
@@ -428,15 +526,17 @@ last_both last (x ∷ xs) ys = last_both (Some x.entry.log_id.index) xs ys
 
 -- what so many steps execute is handed out
 handed_all : (given : Given) → IsWellFormed given → (id : ℕ) → Contains given.ids id → (k : ℕ) (actions : List Action) → AllMayAct given actions (new_cluster given) → StartsBare actions id → (last : Option ℕ)
-    → IsHanded (flushed_node given actions id).store.applied last → (said_by (take k (server_after given actions id).waiting)).installed ≡ []
-    → IsHanded (flushed_node given (actions ++ flushes id k) id).store.applied (last_index last (said_by (take k (server_after given actions id).waiting)).executed)
+    → IsHanded (flushed_node given actions id).store.applied last → (said_all (take k (server_after given actions id).waiting)).installed ≡ []
+    → IsHanded (flushed_node given (actions ++ flushes id k) id).store.applied
+    (last_index last (said_all (take k (server_after given actions id).waiting)).executed)
 handed_all given wf id member zero actions may bare last h none = go (server_after given actions id).waiting
   where
-    go : (ws : List WaitingStep) → IsHanded (flushed_node given (actions ++ []) id).store.applied (last_index last (said_by (take 0 ws)).executed)
+    go : (ws : List WaitingStep) → IsHanded (flushed_node given (actions ++ []) id).store.applied (last_index last (said_all (take 0 ws)).executed)
     go [] = subst (λ xs. IsHanded (flushed_node given xs id).store.applied last) (sym (append-nil actions)) h
     go (w ∷ ws) = subst (λ xs. IsHanded (flushed_node given xs id).store.applied last) (sym (append-nil actions)) h
 handed_all given wf id member (suc k) actions may bare last h none =
-    subst (λ xs. IsHanded (flushed_node given xs id).store.applied (last_index last (said_by (take (suc k) (server_after given actions id).waiting)).executed)) split
+    subst (λ xs. IsHanded (flushed_node given xs id).store.applied
+    (last_index last (said_all (take (suc k) (server_after given actions id).waiting)).executed)) split
     (go (server_after given actions id).waiting refl none (λ l. handed_all given wf id member k (actions ++ Flushes id ∷ []) (may_flush given actions id 1 member may) bare_after l))
   where
     split : (actions ++ Flushes id ∷ []) ++ flushes id k ≡ actions ++ flushes id (suc k)
@@ -457,15 +557,21 @@ handed_all given wf id member (suc k) actions may bare last h none =
     behind [] ys e = e
     behind (x ∷ xs) ys e = cc
 
-    go : (xs : List WaitingStep) → (server_after given actions id).waiting ≡ xs → (said_by (take (suc k) xs)).installed ≡ []
-        → ((l : Option ℕ) → IsHanded (flushed_node given (actions ++ Flushes id ∷ []) id).store.applied l → (said_by (take k (server_after given (actions ++ Flushes id ∷ []) id).waiting)).installed ≡ []
-        → IsHanded (flushed_node given ((actions ++ Flushes id ∷ []) ++ flushes id k) id).store.applied (last_index l (said_by (take k (server_after given (actions ++ Flushes id ∷ []) id).waiting)).executed))
-        → IsHanded (flushed_node given ((actions ++ Flushes id ∷ []) ++ flushes id k) id).store.applied (last_index last (said_by (take (suc k) xs)).executed)
+    go : (xs : List WaitingStep) → (server_after given actions id).waiting ≡ xs → (said_all (take (suc k) xs)).installed ≡ []
+        → ((l : Option ℕ) → IsHanded (flushed_node given (actions ++ Flushes id ∷ []) id).store.applied l
+        → (said_all (take k (server_after given (actions ++ Flushes id ∷ []) id).waiting)).installed ≡ []
+        → IsHanded (flushed_node given ((actions ++ Flushes id ∷ []) ++ flushes id k) id).store.applied
+        (last_index l (said_all (take k (server_after given (actions ++ Flushes id ∷ []) id).waiting)).executed))
+        → IsHanded (flushed_node given ((actions ++ Flushes id ∷ []) ++ flushes id k) id).store.applied
+        (last_index last (said_all (take (suc k) xs)).executed)
     go [] q n rest =
         let still : (server_after given (actions ++ Flushes id ∷ []) id).waiting ≡ [] = ap (λ (s : Server). s.waiting) (none_flushed given actions id q) ∙ q in
-        let empty : said_by (take k (server_after given (actions ++ Flushes id ∷ []) id).waiting) ≡ said_by [] = ap (λ ws. said_by (take k ws)) still ∙ ap said_by (none_taken k) in
-        subst (λ (o : Records (Unit {0})). IsHanded (flushed_node given ((actions ++ Flushes id ∷ []) ++ flushes id k) id).store.applied (last_index last o.executed)) empty
-        (rest last (subst (λ (m : NodeView). IsHanded m.store.applied last) (sym (flushed_still given actions id q)) h) (ap (λ (o : Records (Unit {0})). o.installed) empty))
+        let empty : said_all (take k (server_after given (actions ++ Flushes id ∷ []) id).waiting) ≡ said_all [] =
+        ap (λ ws. said_all (take k ws)) still ∙ ap said_all (none_taken k) in
+        subst (λ (o : Records (List Entry)). IsHanded (flushed_node given ((actions ++ Flushes id ∷ []) ++ flushes id k) id).store.applied
+        (last_index last o.executed)) empty
+        (rest last (subst (λ (m : NodeView). IsHanded m.store.applied last) (sym (flushed_still given actions id q)) h)
+        (ap (λ (o : Records (List Entry)). o.installed) empty))
       where
         none_taken : (m : ℕ) → ◌≡◌ {A = List WaitingStep} (take m []) []
         none_taken zero = refl
@@ -473,11 +579,15 @@ handed_all given wf id member (suc k) actions may bare last h none =
     go (w ∷ ws) q n rest =
         let now : (server_after given (actions ++ Flushes id ∷ []) id).waiting ≡ ws = ap (λ (s : Server). s.waiting) (server_flushed given actions id w ws q) in
         let first : IsHanded (flushed_node given (actions ++ Flushes id ∷ []) id).store.applied (last_index last w.outputs.executed) =
-        handed_flush given wf id member actions may bare w ws q last (front w.outputs.installed (said_by (take k ws)).installed n) h in
-        let same : said_by (take k (server_after given (actions ++ Flushes id ∷ []) id).waiting) ≡ said_by (take k ws) = ap (λ vs. said_by (take k vs)) now in
-        subst (IsHanded (flushed_node given ((actions ++ Flushes id ∷ []) ++ flushes id k) id).store.applied) (sym (last_both last w.outputs.executed (said_by (take k ws)).executed))
-        (subst (λ (o : Records (Unit {0})). IsHanded (flushed_node given ((actions ++ Flushes id ∷ []) ++ flushes id k) id).store.applied (last_index (last_index last w.outputs.executed) o.executed)) same
-        (rest (last_index last w.outputs.executed) first (ap (λ (o : Records (Unit {0})). o.installed) same ∙ behind w.outputs.installed (said_by (take k ws)).installed n)))
+        handed_flush given wf id member actions may bare w ws q last (front w.outputs.installed (said_all (take k ws)).installed n) h in
+        let same : said_all (take k (server_after given (actions ++ Flushes id ∷ []) id).waiting) ≡ said_all (take k ws) =
+        ap (λ vs. said_all (take k vs)) now in
+        subst (IsHanded (flushed_node given ((actions ++ Flushes id ∷ []) ++ flushes id k) id).store.applied)
+        (sym (last_both last w.outputs.executed (said_all (take k ws)).executed))
+        (subst (λ (o : Records (List Entry)). IsHanded (flushed_node given ((actions ++ Flushes id ∷ []) ++ flushes id k) id).store.applied
+        (last_index (last_index last w.outputs.executed) o.executed)) same
+        (rest (last_index last w.outputs.executed) first
+        (ap (λ (o : Records (List Entry)). o.installed) same ∙ behind w.outputs.installed (said_all (take k ws)).installed n)))
 
 -- the answer of the last round leaves
 pending_left : (said rest : List node_answer.Answer) (r : ReadsView) → length (pending r.rounds) ≤ 1 → said ++ rest ≡ pending r.rounds → rest ≡ pending (with_left said r).rounds
@@ -497,8 +607,10 @@ flushes_start_none id zero j at start e = cc
 flushes_start_none id (suc k) zero at start e = cc
 flushes_start_none id (suc k) (suc j) at start e = flushes_start_none id k j at start e
 
-module _ (given : Given) (wf : IsWellFormed given) (actions : List Action) (may : AllMayAct given actions (new_cluster given)) (placed : List Placed) (id : ℕ) (asked reading : List Asked) (old new : CoreView) (out : List Output)
-    (core : IsCore given actions placed id old asked) (reader : IsReader given actions id old reading) (position : ℕ) (r : Releases position old out new) where
+module _ {S : Type 0} (app : Application S) (c : Codec S) (given : Given) (wf : IsWellFormed given) (actions : List Action)
+    (may : AllMayAct given actions (new_cluster given)) (placed : List Placed) (id : ℕ) (asked reading : List Asked) (old new : CoreView S)
+    (out : List (Output S)) (core : IsCore app given actions placed id old asked) (reader : IsReader given actions id old reading) (position : ℕ)
+    (r : Releases app c position old out new) where
   abbrev count : ℕ
   count = released position old
 
@@ -514,51 +626,73 @@ module _ (given : Given) (wf : IsWellFormed given) (actions : List Action) (may 
   abbrev mid : ReadsView
   mid = with_left r.said.answers old.reads
 
-  flush : r.said ≡ said_by (take count (server_after given actions id).waiting)
-  flush =
-      let z : (r.said ≡ said_by (take count (server_after given actions id).waiting)) × Represents (flushed_first count (server_after given actions id)) new.server = r.flushes (server_after given actions id) core.stands in
-      z.0
+  -- what the model's steps said that leave
+  abbrev theirs : Records (List Entry)
+  theirs = said_all (take count (server_after given actions id).waiting)
+
+  said_is : r.said ≡ packed_records app theirs
+  said_is =
+      let z : (r.said ≡ said_by (take count (server_packed app (server_after given actions id)).waiting))
+      × Represents (packed_flushed_first app count (server_packed app (server_after given actions id))) new.server =
+      r.flushes (server_packed app (server_after given actions id)) core.stands in
+      z.0 ∙ said_first app count (server_after given actions id)
+
+  -- a snapshot that the model installed, packed
+  abbrev installing : Installed → PackedInstalled S
+  installing x = record { node = x.node; snapshot = packed app x.entries }
+
+  none_installed : (xs : List Installed) → map installing xs ≡ [] → xs ≡ []
+  none_installed [] q = refl
+  none_installed (x ∷ xs) q = cc
 
   handed : IsHanded (flushed_node given upto id).store.applied executed
   handed = go r.said.installed refl
     where
-      go : (xs : List Installed) → r.said.installed ≡ xs → IsHanded (flushed_node given upto id).store.applied (elim xs as (λ _. Option ℕ) [ [] ↦ last_index old.executed r.said.executed | y ∷ ys ↦ None ])
+      go : (xs : List (PackedInstalled S)) → r.said.installed ≡ xs
+          → IsHanded (flushed_node given upto id).store.applied
+          (elim xs as (λ _. Option ℕ) [ [] ↦ last_index old.executed r.said.executed | y ∷ ys ↦ None ])
       go [] q =
-          subst (λ (o : Records (Unit {0})). IsHanded (flushed_node given upto id).store.applied (last_index old.executed o.executed)) (sym flush)
-          (handed_all given wf id core.member count actions may reader.bare old.executed reader.handed (ap (λ (o : Records (Unit {0})). o.installed) (sym flush) ∙ q))
+          subst (λ (o : PackedRecords S). IsHanded (flushed_node given upto id).store.applied (last_index old.executed o.executed)) (sym said_is)
+          (handed_all given wf id core.member count actions may reader.bare old.executed reader.handed
+          (none_installed theirs.installed (ap (λ (o : PackedRecords S). o.installed) (sym said_is) ∙ q)))
       go (y ∷ ys) q = tt
 
   pend : answers_waiting (server_after given upto id).waiting ≡ pending mid.rounds
   pend =
       pending_left r.said.answers (answers_waiting (server_after given upto id).waiting) old.reads reader.reads.one
-      (ap (λ (o : Records (Unit {0})). o.answers ++ answers_waiting (server_after given upto id).waiting) flush
-      ∙ (ap (λ (s : Server). answers_waiting (take count (server_after given actions id).waiting) ++ answers_waiting s.waiting) (all_flushed given count actions id)
+      (ap (λ (xs : List node_answer.Answer). xs ++ answers_waiting (server_after given upto id).waiting)
+      (ap (λ (o : PackedRecords S). o.answers) said_is ∙ said_answers (take count (server_after given actions id).waiting))
+      ∙ (ap (λ (s : Server). answers_waiting (take count (server_after given actions id).waiting) ++ answers_waiting s.waiting)
+      (all_flushed given count actions id)
       ∙ (sym (answers_flushed count (server_after given actions id)) ∙ reader.pending_is)))
 
   reads : AreReads given upto id mid reading
-  reads = reads_left_by given upto id r.said.answers old.reads reading (reads_more given actions flushed id (own_no_crash id flushed (flushes_own id count)) old.reads reading reader.reads) pend
+  reads =
+      reads_left_by given upto id r.said.answers old.reads reading
+      (reads_more given actions flushed id (own_no_crash id flushed (flushes_own id count)) old.reads reading reader.reads) pend
 
   bare : StartsBare upto id
   bare = bare_more given actions flushed id reader.bare (flushes_start_none id count)
 
   pub releases : KeepsReads given actions id reading out new (flushes id (released position old))
   releases =
-      let c : ReadsClosed given upto id reading (read_replies executed mid) (read_left executed mid) = read_over given wf upto (may_flush given actions id count core.member may) id executed mid reading reads bare handed in
-      keeps given wf actions may placed id asked reading old new out core reader flushed bare
-      (subst (IsHanded (flushed_node given upto id).store.applied) (sym (ap (λ (v : CoreView). v.executed) r.rest)) handed)
-      (pend ∙ (sym (pending_read executed mid) ∙ ap (λ (v : CoreView). pending v.reads.rounds) (sym r.rest))) (read_replies executed mid) (read_left executed mid) (told_by_release position old new out r)
-      (ap (λ (v : CoreView). v.reads) r.rest) c
+      let k : ReadsClosed given upto id reading (read_replies executed mid) (read_left executed mid) =
+      read_over given wf upto (may_flush given actions id count core.member may) id executed mid reading reads bare handed in
+      keeps app given wf actions placed id asked reading old new out core reader flushed bare
+      (subst (IsHanded (flushed_node given upto id).store.applied) (sym (ap (λ (v : CoreView S). v.executed) r.rest)) handed)
+      (pend ∙ (sym (pending_read executed mid) ∙ ap (λ (v : CoreView S). pending v.reads.rounds) (sym r.rest))) (read_replies executed mid)
+      (read_left executed mid) (told_by_release app c position old new out r) (ap (λ (v : CoreView S). v.reads) r.rest) k
 
 -- a read that is taken
-pub admits_read : AdmitsOneRead
-admits_read given actions id reading old new token number h a =
+pub admits_read : {S : Type 0} → AdmitsOneRead S
+admits_read {S} given actions id reading old new token number h a =
     let one : Asked = record { number = number; token = token; operation = Read; came = length actions } in
     let x : Reader = record { token = token; since = old.clock } in
     record {
       bare = h.bare;
-      handed = subst (IsHanded (flushed_node given actions id).store.applied) (sym (ap (λ (v : CoreView). v.executed) a)) h.handed;
-      pending_is = h.pending_is ∙ ap (λ (v : CoreView). pending v.reads.rounds) (sym a);
-      reads = subst (λ (r : ReadsView). AreReads given actions id r (reading ++ one ∷ [])) (sym (ap (λ (v : CoreView). v.reads) a)) (record {
+      handed = subst (IsHanded (flushed_node given actions id).store.applied) (sym (ap (λ (v : CoreView S). v.executed) a)) h.handed;
+      pending_is = h.pending_is ∙ ap (λ (v : CoreView S). pending v.reads.rounds) (sym a);
+      reads = subst (λ (r : ReadsView). AreReads given actions id r (reading ++ one ∷ [])) (sym (ap (λ (v : CoreView S). v.reads) a)) (record {
         open_are = pairs_append (IsOpenRead given actions id) old.reads.readers reading (x ∷ []) (one ∷ []) h.reads.open_are (record { token = refl; came = omega arith }, tt);
         rounds = all_in (IsRound given actions id (reading ++ one ∷ [])) old.reads.rounds (λ o c.
             let k : IsRound given actions id reading o = element (IsRound given actions id reading) old.reads.rounds o h.reads.rounds c in
@@ -573,12 +707,17 @@ admits_read given actions id reading old new token number h a =
       });
     }
 
-pub reads_are_kept : ReadsAreKept
-reads_are_kept = record {
-  initializes = λ given wf actions may placed id asked reading old new out core reader d. initializes given wf actions may placed id asked reading old new out core reader d;
-  ticks = λ given wf actions may placed id asked reading old new out core reader d. ticks given wf actions may placed id asked reading old new out core reader d;
-  receives = λ bytes given wf actions may placed id asked reading old new out core reader d. receives given wf actions may placed id asked reading old new out core reader bytes d;
-  writes = λ given wf actions may placed id asked reading old new out core reader d. writes given wf actions may placed id asked reading old new out core reader d;
-  releases = λ position given wf actions may placed id asked reading old new out core reader d. releases given wf actions may placed id asked reading old new out core reader position d;
+pub reads_are_kept : {S : Type 0} (app : Application S) (c : Codec S) → ReadsAreKept app c
+reads_are_kept app c = record {
+  initializes = λ given wf actions may placed id asked reading old new out core reader d steps same may_now.
+      initializes app given wf actions placed id asked reading old new out core reader d steps same;
+  ticks = λ given wf actions may placed id asked reading old new out core reader d steps same may_now.
+      ticks app given wf actions placed id asked reading old new out core reader c d steps same;
+  receives = λ bytes given wf actions may placed id asked reading old new out core reader d steps same may_now.
+      receives app given wf actions placed id asked reading old new out core reader c bytes d steps same may_now;
+  writes = λ given wf actions may placed id asked reading old new out core reader d steps same may_now.
+      writes app given wf actions may placed id asked reading old new out core reader c d steps same;
+  releases = λ position given wf actions may placed id asked reading old new out core reader d.
+      releases app c given wf actions may placed id asked reading old new out core reader position d;
   admits_read = admits_read;
 }

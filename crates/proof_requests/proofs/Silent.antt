@@ -28,9 +28,9 @@ use Rattle.raft_node.proofs.Worked.{worked-keeps}
 use Rattle.raft_calls.specs.Engines.{with_queue}
 use Rattle.raft_calls.specs.Feeds.{feed}
 use Rattle.proof_servers.specs.Servers.{Cluster, Server, Step, Takes, WaitingStep, after_action, called_node, flushed, flushed_first, outputs_of, with_step}
-use Rattle.raft_core.specs.Steps.{with_steps}
-use Rattle.raft_server.specs.Represents.{said_by}
+use Rattle.proof_requests.specs.Actions.{after_steps}
 use Rattle.proof_requests.specs.OnDisk.{flushed_from}
+use Rattle.proof_requests.specs.ReadLaws.{answers_waiting}
 
 module _ (t : Turn) where
   abbrev Silent : Effects (List Entry) → Type 0
@@ -130,9 +130,6 @@ silent given n s h = go (skip_reason s.act n)
         all_silent (turn_of s.act (called_node s n)) (weight (work_of None now)) (work_of None now) (ap option_to_list (no_answer s.act (calls_at given s.act (called_node s n)).1 h))
 
 -- what the steps that wait answer
-abbrev pub answers_waiting : List WaitingStep → List Answer
-answers_waiting ws = (said_by ws).answers
-
 pub answers_both : (ws us : List WaitingStep) → answers_waiting (ws ++ us) ≡ answers_waiting ws ++ answers_waiting us
 answers_both [] us = refl
 answers_both (w ∷ ws) us = ap (λ xs. w.outputs.answers ++ xs) (answers_both ws us) ∙ sym (append_assoc w.outputs.answers (answers_waiting ws) (answers_waiting us))
@@ -149,7 +146,8 @@ IsPlain act = (act ≢ Read) × ((start : Start) → act ≢ Restart start)
 abbrev pub ArePlain : List Step → Type 0
 ArePlain steps = AllByRecursion (λ (s : Step). IsPlain s.act) steps
 
-pub answers_steps : (given : Given) (steps : List Step) (s : Server) → ArePlain steps → answers_waiting (with_steps given steps s).waiting ≡ answers_waiting s.waiting
+pub answers_steps : (given : Given) (steps : List Step) (s : Server) → ArePlain steps
+    → answers_waiting (after_steps given steps s).waiting ≡ answers_waiting s.waiting
 answers_steps given [] s h = refl
 answers_steps given (step ∷ steps) s h =
     answers_steps given steps (with_step given step s) h.1

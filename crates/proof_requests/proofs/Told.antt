@@ -22,13 +22,13 @@ use Rattle.proof_answers.specs.Answers.{Proposed, Told}
 use Rattle.proof_answers.specs.Waiting.{waiting}
 use Rattle.proof_answers.proofs.Came.{AtMoment, Came, T, es, proposal_appended, tell_executed, told_in_end, told_then}
 use Rattle.proof_answers.proofs.Prefixes.{CameByFlush, slot_last, take_all, take_more, waits_or_came}
-use Rattle.raft_server.specs.Represents.{said_by}
 use Rattle.proof_requests.specs.Actions.{flushes}
 use Rattle.proof_requests.specs.Answered.{entries_left}
 use Rattle.proof_requests.specs.Requests.{server_after}
 use Rattle.proof_requests.proofs.Left.{entries_more, entries_oldest}
 use Rattle.proof_requests.proofs.Lists.{none_in, slot_behind, slot_less}
 use Rattle.proof_requests.proofs.More.{after_both, may_both, proposed_more, takes_more, told_more}
+use Rattle.proof_requests.proofs.Packs.{said_all}
 use Rattle.proof_requests.proofs.Waits.{AreTaken, are_taken, first_taken, flushes_empty}
 
 module _ (given : Given) where
@@ -102,7 +102,7 @@ module _ (given : Given) where
 
 -- entries of what waiting steps say
 abbrev pub entries_said : List WaitingStep → List Entry
-entries_said ws = map (λ (x : Executed). x.entry) (said_by ws).executed
+entries_said ws = map (λ (x : Executed). x.entry) (said_all ws).executed
 
 module _ (given : Given) (wf : IsWellFormed given) (id : ℕ) (member : Contains given.ids id) where
   -- what the oldest step executed
@@ -147,7 +147,7 @@ module _ (given : Given) (wf : IsWellFormed given) (id : ℕ) (member : Contains
           → AllByRecursion (IsTold given (actions ++ flushes id (suc k)) id) (entries_said (take (suc k) xs))
       go [] q rest = tt
       go (w ∷ ws) q rest =
-          both (IsTold given (actions ++ flushes id (suc k)) id) w.outputs.executed (said_by (take k ws)).executed
+          both (IsTold given (actions ++ flushes id (suc k)) id) w.outputs.executed (said_all (take k ws)).executed
           (λ y c. subst (λ xs. IsTold given xs id y.entry) (sym split) (told_on given (actions ++ Flushes id ∷ []) (flushes id k) id y.entry (oldest_told actions may w ws q y c)))
           (subst (λ xs. AllByRecursion (IsTold given xs id) (entries_said (take k ws))) (sym split)
           (subst (λ (s : Server). AllByRecursion (IsTold given ((actions ++ Flushes id ∷ []) ++ flushes id k) id) (entries_said (take k s.waiting))) (server_flushed given actions id w ws q)

@@ -2,6 +2,7 @@
 use Rattle.std.proofs.Common.{ℕ, ◌+◌, ◌<◌, ◌≤◌, ◌≡◌, ◌≢◌, ◌⊎◌, inl, inr, ⊎_elim, Bool, true, false, List, [], ◌∷◌, ◌++◌, length, take, drop, map, arith, refl, sym, ap, ◌∙◌, subst, Option, None, Some, append_assoc}
 use Rattle.std.specs.Prelude.{Contains, IfSome, slice_get}
 use Rattle.std.specs.List.{AllByRecursion}
+use Rattle.std.specs.Option.{option_map}
 use Rattle.std.proofs.Math.Nat.{min-eq_left}
 use Rattle.std.proofs.lemmas.List.{append-nil, length-append, map-append}
 use Rattle.std.proofs.lemmas.List.Elements.{Contains-append_cases, Contains-append_left, Contains-append_right}
@@ -9,9 +10,11 @@ use Rattle.raft_state.specs.declared.ids.LogId.{LogId}
 use Rattle.raft_store.specs.declared.entry.Entry.{Entry}
 use Rattle.raft_store.specs.declared.entry.Value.{Value}
 use Rattle.raft_store.specs.declared.entry.Value.TheVariants.{Bytes}
+use Rattle.raft_store.specs.Types.{EngineView}
 use Rattle.raft_schedule.specs.declared.event.Outcome.{Outcome}
 use Rattle.raft_schedule.specs.declared.event.Outcome.TheVariants.{Done, Refused, Skipped, Stopped}
 use Rattle.raft_calls.specs.declared.message.Message.{Message}
+use Rattle.raft_codec.specs.Codec.{Codec}
 use Rattle.raft_node.specs.declared.act.Act.{Act}
 use Rattle.raft_node.specs.declared.act.Act.TheVariants as acts
 use Rattle.raft_node.specs.declared.act.Act.TheVariants.{Propose}
@@ -28,22 +31,26 @@ use Rattle.raft_answers.specs.declared.request.Request.{Request}
 use Rattle.raft_answers.specs.Answers.{ended, failed, refused}
 use Rattle.raft_answers.specs.Laws.{with_places}
 use Rattle.raft_answers.specs.Requests.{Batched, Open, no_requests, proposal_at}
-use Rattle.raft_server.specs.declared.serving.Serving.{Serving}
-use Rattle.raft_server.specs.Represents.{Represents, StandsFor}
-use Rattle.raft_server.specs.Views.{ServerView}
+use Rattle.proof_packed.specs.Nodes.{PackedNode, bare_engine}
+use Rattle.proof_packed.specs.Stores.{Application}
+use Rattle.raft_core.specs.proof_packed_servers.Servers.{PackedServer, PackedStep, packed_played_alone, packed_with_step, server_packed}
+use Rattle.raft_core.specs.proof_packed_servers.Servers.{step_packed}
+use Rattle.raft_core.specs.raft_packed_server.declared.serving.Serving.{Serving}
+use Rattle.raft_core.specs.raft_packed_server.Represents.{Represents, StandsFor}
+use Rattle.raft_core.specs.raft_packed_server.Views.{ServerView}
 use Rattle.raft_core.specs.declared.output.Output.{Output}
 use Rattle.raft_core.specs.Calls.{Asks, Becomes, IsNext, IsNextId, Proposes, ProposesBatch, Writes, WritesNow, appended}
 use Rattle.raft_core.specs.Laws.{replies_of}
-use Rattle.raft_core.specs.Outputs.{lost_left, lost_replies, reads_out, replies_out}
-use Rattle.raft_core.specs.Steps.{with_steps}
+use Rattle.raft_core.specs.Outputs.{lost_left, lost_replies}
+use Rattle.raft_core.specs.Steps.{step_at, steps_at, with_steps}
 use Rattle.raft_core.specs.Views.{CoreView}
 use Rattle.raft_core.proofs.Told.{before_read, none_appended}
 use Rattle.proof_clients.proofs.Sequences.{element, each_of}
 use Rattle.proof_clients.proofs.Slots.{here, slot_below, there}
-use Rattle.proof_servers.specs.Servers.{Action, AllMayAct, Crashes, MayTake, Server, Step, Takes, after_actions, new_cluster, played_alone, with_step}
+use Rattle.proof_servers.specs.Servers.{Action, AllMayAct, Crashes, MayTake, Server, Step, Takes, after_actions, new_cluster, played_alone}
 use Rattle.proof_answers.specs.Answers.{Proposed, StepAppends, node_then}
 use Rattle.proof_answers.proofs.Prefixes.{slot_cases, slot_last}
-use Rattle.proof_requests.specs.Actions.{asking, proposed, taking, written}
+use Rattle.proof_requests.specs.Actions.{AreSteps, taking, written}
 use Rattle.proof_requests.specs.Answered.{AreAnswered, IsAnswered}
 use Rattle.proof_requests.specs.Entries.{value_at}
 use Rattle.proof_requests.specs.Frames.{frames_of}
@@ -52,10 +59,11 @@ use Rattle.proof_requests.specs.Requests.{AllPairs, AreApart, AreOfTwo, AreOnce,
 use Rattle.proof_requests.proofs.Batches.{HasPlace, IsOf, Mark, Marked, batch_marked, bytes_of, marks_single, placed_at, placed_from, placed_in, placed_once, placed_single, placed_there}
 use Rattle.proof_requests.proofs.Calls.{stepped}
 use Rattle.proof_requests.proofs.Closing.{Closed, answered_both, closes_both, closes_lost, closes_none, closes_refused_all}
-use Rattle.proof_requests.proofs.Kept.{all_awaited_on, all_waiting_on, open_kept, own_no_crash, placed_kept, server_steps, steps_may, steps_no_proposal, steps_own}
+use Rattle.proof_requests.proofs.Kept.{all_awaited_on, all_waiting_on, open_kept, own_no_crash, placed_kept, steps_may, steps_no_proposal, steps_own}
 use Rattle.proof_requests.proofs.Lists.{all_append, all_in, contains_take, map_slot, none_in, pairs_append, pairs_drop, pairs_of, pairs_take, rises_apart, rises_first, rises_left, slot_map, slot_none, split_at}
 use Rattle.proof_requests.proofs.More.{may_both, proposed_less, proposed_more, server_there}
-use Rattle.proof_requests.proofs.Sent.{AreSent, frames_more, no_frames, no_read_frames, none_sent, none_written}
+use Rattle.proof_requests.proofs.Packs.{acts_at, acts_packed, asked_acts, asked_are, outcome_packed, proposed_acts, proposed_are, stands_after}
+use Rattle.proof_requests.proofs.Sent.{AreSent, no_written_frames, none_sent}
 use Rattle.proof_requests.proofs.Steps.{Appends, DoneBy, Nothing, appends, come, nothing_appended, one_appended, only_appended}
 
 once_append : (xs ys : List Placed) → AreOnce xs → AreOnce ys → ((v w : Placed) → Contains xs v → Contains ys w → AreApart v w) → AreOnce (xs ++ ys)
@@ -82,8 +90,10 @@ becomes_failed first places old new told replies (Refused n) d b = b
 becomes_failed first places old new told replies (Skipped r) d b = b
 becomes_failed first places old new told replies Stopped d b = b
 
-module _ (given : Given) (wf : IsWellFormed given) (actions : List Action) (may : AllMayAct given actions (new_cluster given)) (placed : List Placed) (placed_are : ArePlaced given actions placed)
-    (id : ℕ) (asked : List Asked) (old new : CoreView) (out : List Output) (w : WritesNow old out new) (core : IsCore given actions placed id (record old { server = w.asked }) asked) where
+module _ {S : Type 0} (app : Application S) (c : Codec S) (given : Given) (wf : IsWellFormed given) (actions : List Action)
+    (may : AllMayAct given actions (new_cluster given)) (placed : List Placed) (placed_are : ArePlaced given actions placed)
+    (id : ℕ) (asked : List Asked) (old new : CoreView S) (out : List (Output S)) (w : WritesNow app c old out new)
+    (core : IsCore app given actions placed id (record old { server = w.asked }) asked) where
   -- those whose lead is over
   record Lost (o : Open) : Type 0 where
     mid : List Asked
@@ -116,25 +126,21 @@ module _ (given : Given) (wf : IsWellFormed given) (actions : List Action) (may 
   h = lost.open_are
 
   same_id : new.id ≡ old.id
-  same_id = ap (λ (v : CoreView). v.id) w.rest
+  same_id = ap (λ (v : CoreView S). v.id) w.rest
 
   leave : replies_of out ≡ w.replies
-  leave = ap replies_of w.leaves ∙ before_read w.replies w.refused (appended w.written) (none_appended w.written)
+  leave = ap replies_of w.leaves ∙ before_read w.replies w.refused (appended w.written) (none_appended S w.written)
 
-  sent_are : (bag : List Message) → AreSent bag (frames_of out)
-  sent_are bag =
-      none_sent bag out
-      (ap frames_of w.leaves
-      ∙ (frames_more (replies_out w.replies) (reads_out w.refused ++ appended w.written)
-      ∙ (ap (λ fs. fs ++ frames_of (reads_out w.refused ++ appended w.written)) (no_frames w.replies)
-      ∙ (frames_more (reads_out w.refused) (appended w.written) ∙ (ap (λ fs. fs ++ frames_of (appended w.written)) (no_read_frames w.refused) ∙ none_written w.written)))))
+  sent_are : (bag : List Message) → AreSent app c bag (frames_of out)
+  sent_are bag = none_sent app c bag out (ap frames_of w.leaves ∙ no_written_frames S w.replies w.refused w.written)
 
   lost_told : w.lost ≡ lost_replies w.loses.lost old.requests
   lost_told = w.loses.tells
 
   -- The oldest of those that wait are proposed
 
-  module _ (first : LogId ℕ) (next_is : IsNextId w.asked.serving first) (b : ProposesBatch old.clock first w.asked w.kept w.lost w.server new.requests w.replies) where
+  module _ (first : LogId ℕ) (next_is : IsNextId w.asked.serving first)
+      (b : ProposesBatch app old.clock first w.asked w.kept w.lost w.server new.requests w.replies) where
     abbrev values : List Value
     values = map Bytes b.batch.values
 
@@ -153,13 +159,22 @@ module _ (given : Given) (wf : IsWellFormed given) (actions : List Action) (may 
     abbrev node : NodeView
     node = (server_after given actions id).node
 
-    taken_step : (b.outcome ≡ (played_alone given node step).0) × Represents (with_step given step (server_after given actions id)) w.server
-    taken_step = subst (λ g. (b.outcome ≡ (played_alone g node step).0) × Represents (with_step g step (server_after given actions id)) w.server) core.given_is (b.takes.step (server_after given actions id) core.stands)
+    -- the model's server, packed
+    abbrev packed : PackedServer S
+    packed = server_packed app (server_after given actions id)
 
-    stands_now : Represents (server_after given after id) new.server
-    stands_now =
-        w.stays (server_after given after id)
-        (subst (λ (s : Server). Represents s w.server) (sym (server_steps given id (step ∷ []) actions)) taken_step.1)
+    abbrev step_taken : PackedStep S
+    step_taken = step_at app old.clock (Propose values)
+
+    taken_step : (b.outcome ≡ (packed_played_alone app given packed.node step_taken).0)
+        × Represents (packed_with_step app given step_taken packed) w.server
+    taken_step =
+        subst (λ g. (b.outcome ≡ (packed_played_alone app g packed.node step_taken).0)
+        × Represents (packed_with_step app g step_taken packed) w.server)
+        core.given_is (b.takes.step packed core.stands)
+
+    outcome_is : b.outcome ≡ (played_alone given node step).0
+    outcome_is = taken_step.0 ∙ sym (outcome_packed app given wf id core.member actions may step)
 
     given_now : new.server.given ≡ given
     given_now = w.given ∙ (b.takes.given ∙ core.given_is)
@@ -167,12 +182,21 @@ module _ (given : Given) (wf : IsWellFormed given) (actions : List Action) (may 
     may_now : AllMayAct given after (new_cluster given)
     may_now = may_both given actions took (new_cluster given) may ((core.member, tt), tt)
 
+    stands_now : Represents (server_packed app (server_after given after id)) new.server
+    stands_now =
+        w.stays (server_packed app (server_after given after id))
+        (stands_after app given wf id core.member (step ∷ []) (step_taken ∷ []) refl actions may_now w.server taken_step.1)
+
     next_id : IfSome node.engine (λ e. IsNext e first)
     next_id = go w.asked.serving core.stands next_is
       where
-        go : (o : Option Serving) → StandsFor (server_after given actions id) o → IsNextId o first → IfSome node.engine (λ e. IsNext e first)
+        bared : (o : Option EngineView) → IfSome (option_map bare_engine o) (λ e. IsNext e first) → IfSome o (λ e. IsNext e first)
+        bared None n = tt
+        bared (Some e) n = record { leads = n.leads; index = n.index }
+
+        go : (o : Option (Serving S)) → StandsFor packed o → IsNextId o first → IfSome node.engine (λ e. IsNext e first)
         go None s n = absurd s
-        go (Some v) s n = subst (λ (m : NodeView). IfSome m.engine (λ e. IsNext e first)) s.node n
+        go (Some v) s n = bared node.engine (subst (λ (m : PackedNode S). IfSome m.engine (λ e. IsNext e first)) s.node n)
 
     -- the requests of the batch
     abbrev count : ℕ
@@ -205,8 +229,8 @@ module _ (given : Given) (wf : IsWellFormed given) (actions : List Action) (may 
         (z.0, z.1, ap Bytes {x = bytes_of z.0} z.2 ∙ y.2)
 
     -- the action of a proposal after these
-    record IsNow (c d : ℕ) (s : Step) : Type 0 where
-      call_is : c ≡ call
+    record IsNow (number d : ℕ) (s : Step) : Type 0 where
+      call_is : number ≡ call
       own : id ≡ d
       step_is : step ≡ s
 
@@ -243,7 +267,7 @@ module _ (given : Given) (wf : IsWellFormed given) (actions : List Action) (may 
 
     module _ (none : Nothing given node old.clock values no_records node.engine) where
       not_done : b.outcome ≢ Done
-      not_done e = none.not_done (sym taken_step.0 ∙ e)
+      not_done e = none.not_done (sym outcome_is ∙ e)
 
       becomes : (new.requests ≡ record b.taken { proposed = [] }) × (w.replies ≡ w.lost ++ (ended b.taken.proposed ++ failed b.batch.places))
       becomes = becomes_failed first b.batch.places b.taken new.requests w.lost w.replies b.outcome not_done b.becomes
@@ -278,7 +302,7 @@ module _ (given : Given) (wf : IsWellFormed given) (actions : List Action) (may 
             (failed_pairs (take count w.kept.waiting) b.batch.places asks (pairs_take (IsWaiting given actions placed id) count w.kept.waiting h.waiting h.waits) M.places);
       }
 
-      keeps_failed : Keeps given actions placed id asked out new took
+      keeps_failed : Keeps app c given actions placed id asked out new took
       keeps_failed = record {
         own = (refl, tt);
         may = may_now;
@@ -289,7 +313,7 @@ module _ (given : Given) (wf : IsWellFormed given) (actions : List Action) (may 
         answered = subst (λ ps. AreAnswered given after ps id asked (replies_of out) later) (sym (append-nil placed))
             (subst (λ rs. AreAnswered given after placed id asked rs later) (sym replies_are)
             (answered_both given after placed id asked lost.mid later (lost_replies w.loses.lost old.requests) (ended w.kept.proposed ++ failed b.batch.places) (lost.told after placed) failed_told));
-        core = subst (λ ps. IsCore given after ps id new later) (sym (append-nil placed)) (record {
+        core = subst (λ ps. IsCore app given after ps id new later) (sym (append-nil placed)) (record {
           member = core.member;
           own = same_id ∙ core.own;
           given_is = given_now;
@@ -488,7 +512,7 @@ module _ (given : Given) (wf : IsWellFormed given) (actions : List Action) (may 
           grows : (x : Placed) → Contains placed x → Contains placed' x
           grows x c = Contains-append_left placed rows x c
 
-      keeps_done : Keeps given actions placed id asked out new took
+      keeps_done : Keeps app c given actions placed id asked out new took
       keeps_done = record {
         own = (refl, tt);
         may = may_now;
@@ -509,10 +533,10 @@ module _ (given : Given) (wf : IsWellFormed given) (actions : List Action) (may 
         frames = sent_are (after_actions given after (new_cluster given)).released.bag;
       }
 
-    keeps_batch : Keeps given actions placed id asked out new took
+    keeps_batch : Keeps app c given actions placed id asked out new took
     keeps_batch =
         ⊎_elim
-        (λ (d : DoneBy given node old.clock values no_records node.engine). keeps_done (taken_step.0 ∙ d.done) (λ k v e. go values k v e d))
+        (λ (d : DoneBy given node old.clock values no_records node.engine). keeps_done (outcome_is ∙ d.done) (λ k v e. go values k v e d))
         (λ n. keeps_failed n)
         (come given wf actions may id core.member old.clock values)
       where
@@ -525,26 +549,36 @@ module _ (given : Given) (wf : IsWellFormed given) (actions : List Action) (may 
 
   -- what doesn't propose
   keeps_without : w.server ≡ w.asked → (rs : List Reply) (o : Open) → w.replies ≡ rs → new.requests ≡ o
-      → (AreOpen given (actions ++ []) placed id old.requests asked → Closed given (actions ++ []) placed id asked rs o) → Keeps given actions placed id asked out new []
+      → (AreOpen given (actions ++ []) placed id old.requests asked → Closed given (actions ++ []) placed id asked rs o)
+      → Keeps app c given actions placed id asked out new []
   keeps_without e rs o q r close =
-      stepped given wf actions may placed placed_are id asked (record old { server = w.asked }) new out core old.clock []
-      (w.given ∙ ap (λ (v : ServerView). v.given) e) (λ s is. w.stays s (subst (Represents s) (sym e) is)) same_id tt tt rs o (leave ∙ q) r close sent_are
+      stepped app c given wf actions may placed placed_are id asked (record old { server = w.asked }) new out core [] [] refl
+      (w.given ∙ ap (λ (v : ServerView S). v.given) e) (λ s is. w.stays s (subst (Represents s) (sym e) is)) same_id tt tt rs o (leave ∙ q) r close
+      sent_are
 
-  keeps_now : (p : Proposes old.clock w.asked w.kept w.lost w.server new.requests w.replies) → Keeps given actions placed id asked out new (taking id (proposed old.clock w.asked w.kept w.lost w.server new.requests w.replies p))
+  abbrev proposed_by : Proposes app old.clock w.asked w.kept w.lost w.server new.requests w.replies → List Act
+  proposed_by p = proposed_acts app old.clock w.asked w.kept w.lost w.server new.requests w.replies p
+
+  keeps_now : (p : Proposes app old.clock w.asked w.kept w.lost w.server new.requests w.replies)
+      → Keeps app c given actions placed id asked out new (taking id (acts_at old.clock (proposed_by p)))
   keeps_now (inl (none, e, q, r)) =
       keeps_without e (lost_replies w.loses.lost old.requests) (lost_left w.loses.lost old.requests) (r ∙ lost_told) (q ∙ w.loses.left)
       (λ k. closes_lost given (actions ++ []) placed id w.loses.lost asked old.requests k)
   keeps_now (inr (inl (leader, e, r))) =
-      keeps_without e (lost_replies w.loses.lost old.requests ++ refused_all leader (lost_left w.loses.lost old.requests)) no_requests (r.tells ∙ (ap (λ rs. rs ++ refused_all leader w.kept) lost_told ∙ ap (λ (o : Open). lost_replies w.loses.lost old.requests ++ refused_all leader o) w.loses.left)) r.left
-      (λ k. closes_both given (actions ++ []) placed id asked (lost_replies w.loses.lost old.requests) (refused_all leader (lost_left w.loses.lost old.requests)) no_requests (lost_left w.loses.lost old.requests)
+      keeps_without e (lost_replies w.loses.lost old.requests ++ refused_all leader (lost_left w.loses.lost old.requests)) no_requests
+      (r.tells ∙ (ap (λ rs. rs ++ refused_all leader w.kept) lost_told
+      ∙ ap (λ (o : Open). lost_replies w.loses.lost old.requests ++ refused_all leader o) w.loses.left)) r.left
+      (λ k. closes_both given (actions ++ []) placed id asked (lost_replies w.loses.lost old.requests)
+      (refused_all leader (lost_left w.loses.lost old.requests)) no_requests (lost_left w.loses.lost old.requests)
       (closes_lost given (actions ++ []) placed id w.loses.lost asked old.requests k)
       (λ left j. closes_refused_all given (actions ++ []) placed id leader left (lost_left w.loses.lost old.requests) j))
   keeps_now (inr (inr (first, n, b))) = keeps_batch first n b
 
 -- reads are asked for, and then
-keeps_both : (given : Given) (actions first next : List Action) (placed : List Placed) (id : ℕ) (asked : List Asked) (out : List Output) (new : CoreView) → AllByRecursion (IsOwnAction id) first
-    → Keeps given (actions ++ first) placed id asked out new next → Keeps given actions placed id asked out new (first ++ next)
-keeps_both given actions first next placed id asked out new own k =
+keeps_both : {S : Type 0} (app : Application S) (c : Codec S) (given : Given) (actions first next : List Action) (placed : List Placed) (id : ℕ)
+    (asked : List Asked) (out : List (Output S)) (new : CoreView S) → AllByRecursion (IsOwnAction id) first
+    → Keeps app c given (actions ++ first) placed id asked out new next → Keeps app c given actions placed id asked out new (first ++ next)
+keeps_both app c given actions first next placed id asked out new own k =
     let same : (actions ++ first) ++ next ≡ actions ++ (first ++ next) = append_assoc actions first next in
     record {
       own = all_append (IsOwnAction id) first next own k.own;
@@ -554,47 +588,77 @@ keeps_both given actions first next placed id asked out new own k =
       placed_are = subst (λ xs. ArePlaced given xs (placed ++ k.more)) same k.placed_are;
       left = k.left;
       answered = subst (λ xs. AreAnswered given xs (placed ++ k.more) id asked (replies_of out) k.left) same k.answered;
-      core = subst (λ xs. IsCore given xs (placed ++ k.more) id new k.left) same k.core;
-      frames = subst (λ xs. AreSent (after_actions given xs (new_cluster given)).released.bag (frames_of out)) same k.frames;
+      core = subst (λ xs. IsCore app given xs (placed ++ k.more) id new k.left) same k.core;
+      frames = subst (λ xs. AreSent app c (after_actions given xs (new_cluster given)).released.bag (frames_of out)) same k.frames;
     }
 
-module _ (given : Given) (wf : IsWellFormed given) (actions : List Action) (may : AllMayAct given actions (new_cluster given)) (placed : List Placed) (placed_are : ArePlaced given actions placed)
-    (id : ℕ) (asked : List Asked) (old new : CoreView) (out : List Output) (core : IsCore given actions placed id old asked) (w : WritesNow old out new) where
-  abbrev Kept : List Step → Type 0
-  Kept steps = Keeps given actions placed id asked out new (map (Takes id) (steps ++ proposed old.clock w.asked w.kept w.lost w.server new.requests w.replies w.proposes))
+module _ {S : Type 0} (app : Application S) (c : Codec S) (given : Given) (wf : IsWellFormed given) (actions : List Action)
+    (may : AllMayAct given actions (new_cluster given)) (placed : List Placed) (placed_are : ArePlaced given actions placed)
+    (id : ℕ) (asked : List Asked) (old new : CoreView S) (out : List (Output S)) (core : IsCore app given actions placed id old asked)
+    (w : WritesNow app c old out new) where
+  abbrev proposing : List Act
+  proposing = proposed_acts app old.clock w.asked w.kept w.lost w.server new.requests w.replies w.proposes
 
   -- at the server that has asked
-  after_asking : (steps : List Step) → AllByRecursion (λ (s : Step). MayTake (after_actions given actions (new_cluster given)).released.bag id s.act) steps
-      → AllByRecursion (λ (s : Step). (values : List Value) → s.act ≡ Propose values → ⊥) steps → w.asked.given ≡ given → Represents (with_steps given steps (server_after given actions id)) w.asked → Kept steps
-  after_asking steps m n g r =
+  after_asking : (steps : List Step) (taken : List (PackedStep S)) → AreSteps app steps taken
+      → AllByRecursion (λ (s : Step). MayTake (after_actions given actions (new_cluster given)).released.bag id s.act) steps
+      → AllByRecursion (λ (s : Step). (values : List Value) → s.act ≡ Propose values → ⊥) steps → w.asked.given ≡ given
+      → Represents (with_steps app given taken (server_packed app (server_after given actions id))) w.asked
+      → Keeps app c given actions placed id asked out new (taking id (steps ++ acts_at old.clock proposing))
+  after_asking steps taken same m n g r =
       let first : List Action = map (Takes id) steps in
       let own : AllByRecursion (IsOwnAction id) first = steps_own given id steps in
       let may_first : AllMayAct given (actions ++ first) (new_cluster given) =
       may_both given actions first (new_cluster given) may (steps_may given id steps (after_actions given actions (new_cluster given)) core.member m) in
-      let next : List Step = proposed old.clock w.asked w.kept w.lost w.server new.requests w.replies w.proposes in
-      subst (Keeps given actions placed id asked out new) (sym (map-append (Takes id) steps next))
-      (keeps_both given actions first (map (Takes id) next) placed id asked out new own
-      (keeps_now given wf (actions ++ first) may_first placed (placed_kept given actions first placed (steps_no_proposal given id steps n) placed_are) id asked old new out w
+      let next : List Step = acts_at old.clock proposing in
+      subst (Keeps app c given actions placed id asked out new) (sym (map-append (Takes id) steps next))
+      (keeps_both app c given actions first (map (Takes id) next) placed id asked out new own
+      (keeps_now app c given wf (actions ++ first) may_first placed
+      (placed_kept given actions first placed (steps_no_proposal given id steps n) placed_are) id asked old new out w
       (record {
         member = core.member;
         own = core.own;
         given_is = g;
-        stands = subst (λ (s : Server). Represents s w.asked) (sym (server_steps given id steps actions)) r;
+        stands = stands_after app given wf id core.member steps taken same actions may_first w.asked r;
         open_are = open_kept given actions first placed id (own_no_crash id first own) old.requests asked core.open_are;
       })
       w.proposes))
 
-  keeps_asking : (a : Asks old.clock old.id old.server w.reads w.asked new.reads) → Kept (asking old.clock old.id old.server w.reads w.asked new.reads a)
-  keeps_asking (inl (e, q)) = after_asking [] tt tt (ap (λ (v : ServerView). v.given) e ∙ core.given_is) (subst (Represents (server_after given actions id)) (sym e) core.stands)
+  keeps_asking : (a : Asks app old.clock old.id old.server w.reads w.asked new.reads)
+      → Keeps app c given actions placed id asked out new
+      (taking id (acts_at old.clock (asked_acts app old.clock old.id old.server w.reads w.asked new.reads a) ++ acts_at old.clock proposing))
+  keeps_asking (inl (e, q)) =
+      after_asking [] [] refl tt tt (ap (λ (v : ServerView S). v.given) e ∙ core.given_is)
+      (subst (Represents (server_packed app (server_after given actions id))) (sym e) core.stands)
   keeps_asking (inr asks) =
-      after_asking (record { act = acts.Read; at = old.clock } ∷ []) (tt, tt) ((λ values e. cc), tt) (asks.takes.given ∙ core.given_is)
-      (subst (λ g. Represents (with_steps g (record { act = acts.Read; at = old.clock } ∷ []) (server_after given actions id)) w.asked) core.given_is (asks.takes.steps (server_after given actions id) core.stands))
+      after_asking (acts_at old.clock (acts.Read ∷ [])) (steps_at app old.clock (acts.Read ∷ [])) refl (tt, tt) ((λ values e. cc), tt)
+      (asks.takes.given ∙ core.given_is)
+      (subst (λ g. Represents (with_steps app g (steps_at app old.clock (acts.Read ∷ [])) (server_packed app (server_after given actions id)))
+      w.asked)
+      core.given_is (asks.takes.steps (server_packed app (server_after given actions id)) core.stands))
 
-pub writes : OfCalls (λ given actions old out new. Writes old out new) (λ given actions id old out new d. taking id (written old out new d))
-writes given wf actions may placed placed_are id asked old new out core (inl (e, q)) =
-    stepped given wf actions may placed placed_are id asked old new out core old.clock []
-    (ap (λ (v : CoreView). v.server.given) q) (λ s is. subst (λ (v : CoreView). Represents s v.server) (sym q) is)
-    (ap (λ (v : CoreView). v.id) q) tt tt [] old.requests (ap replies_of e) (ap (λ (v : CoreView). v.requests) q)
-    (λ k. closes_none given (actions ++ []) placed id asked old.requests k) (λ bag. none_sent bag out (ap frames_of e))
-writes given wf actions may placed placed_are id asked old new out core (inr w) =
-    keeps_asking given wf actions may placed placed_are id asked old new out core w w.asks
+  -- both are the call's steps, packed
+  keeps_written : (steps : List Step) × AreSteps app steps (written app c old out new (inr w))
+      × Keeps app c given actions placed id asked out new (taking id steps)
+  keeps_written =
+      let asks : List Act = asked_acts app old.clock old.id old.server w.reads w.asked new.reads w.asks in
+      let a = asked_are app old.clock old.id old.server w.reads w.asked new.reads w.asks in
+      let p = proposed_are app old.clock w.asked w.kept w.lost w.server new.requests w.replies w.proposes in (
+        acts_at old.clock asks ++ acts_at old.clock proposing,
+        map-append (step_packed app) (acts_at old.clock asks) (acts_at old.clock proposing)
+            ∙ (λ i. (acts_packed app old.clock asks a.1 ∙ sym a.0) i ++ (acts_packed app old.clock proposing p.1 ∙ sym p.0) i),
+        keeps_asking w.asks,
+      )
+
+pub writes : {S : Type 0} (app : Application S) (c : Codec S)
+    → OfCalls app c (λ given actions old out new. Writes app c old out new) (λ given actions old out new d. written app c old out new d)
+writes {S} app c given wf actions may placed placed_are id asked old new out core (inl (e, q)) = (
+  [],
+  refl,
+  stepped app c given wf actions may placed placed_are id asked old new out core [] [] refl
+      (ap (λ (v : CoreView S). v.server.given) q) (λ s is. subst (λ (v : CoreView S). Represents s v.server) (sym q) is)
+      (ap (λ (v : CoreView S). v.id) q) tt tt [] old.requests (ap replies_of e) (ap (λ (v : CoreView S). v.requests) q)
+      (λ k. closes_none given (actions ++ []) placed id asked old.requests k) (λ bag. none_sent app c bag out (ap frames_of e)),
+)
+writes app c given wf actions may placed placed_are id asked old new out core (inr w) =
+    keeps_written app c given wf actions may placed placed_are id asked old new out core w

@@ -5,6 +5,7 @@ use Rattle.raft_frames.specs.declared.header.LogId.{LogId as LogName}
 use Rattle.raft_store.specs.declared.entry.Entry.{Entry}
 use Rattle.raft_store.specs.declared.entry.Value.{Value}
 use Rattle.raft_store.specs.declared.entry.Value.TheVariants.{Bytes}
+use Rattle.raft_codec.specs.Codec.{Codec}
 use Rattle.raft_node.specs.declared.given.Given.{Given}
 use Rattle.raft_node.specs.WellFormed.{IsWellFormed}
 use Rattle.raft_answers.specs.declared.answer.Answer.{Answer}
@@ -14,17 +15,20 @@ use Rattle.raft_answers.specs.declared.request.Operation.{Operation as Asks}
 use Rattle.raft_answers.specs.declared.request.Operation.TheVariants.{Read, Write}
 use Rattle.raft_answers.specs.declared.request.Token.{Token}
 use Rattle.proof_clients.specs.Objects.{IsLinearizable, Object, Operation, Query, Return, Update}
-use Rattle.proof_servers.specs.Servers.{Action, AllMayAct, Crashes, after_actions, new_cluster}
-use Rattle.proof_logs.specs.Laws.{IsCut, cut_file}
-use Rattle.raft_wire.specs.declared.record.Record.{Record}
+use Rattle.proof_servers.specs.Servers.{Action, AllMayAct, Crashes, Step, after_actions, new_cluster}
 use Rattle.proof_answers.specs.Histories.{IsHistory}
-use Rattle.raft_server.specs.Laws.{OpensCrashed}
+use Rattle.proof_packed.specs.Stores.{Application, Packed}
+use Rattle.raft_core.specs.proof_packed_servers.Checkpoints.{AreSameDisks}
+use Rattle.raft_core.specs.proof_packed_servers.Servers.{PackedDisk, PackedStep, server_packed}
+use Rattle.raft_core.specs.raft_packed_wire.declared.record.PackedRecord.{PackedRecord}
+use Rattle.raft_core.specs.raft_packed_server.declared.batch.Written.{Written}
+use Rattle.raft_core.specs.raft_packed_server.Laws.{IsCut, OpensCrashed, cut_file}
 use Rattle.raft_core.specs.declared.driver.OpenedCore.{OpenedCore}
 use Rattle.raft_core.specs.declared.output.Output.{Output}
-use Rattle.raft_core.specs.Calls.{Admits, AdmitsRead, Begins, Receives, Releases, Ticks, Writes}
+use Rattle.raft_core.specs.Calls.{Admits, AdmitsRead, Begins, BeginsNewLog, Receives, Releases, Ticks, Writes}
 use Rattle.raft_core.specs.Laws.{read_replies_of, replies_of}
 use Rattle.raft_core.specs.Views.{CoreView}
-use Rattle.proof_requests.specs.Actions.{Initializes, flushes, initialized, received, released, taking, ticked, written}
+use Rattle.proof_requests.specs.Actions.{AreSteps, Initializes, flushes, initialized, received, released, taking, ticked, written}
 use Rattle.proof_requests.specs.Answered.{IsDone, IsTrue}
 use Rattle.proof_requests.specs.Frames.{IsSent, frames_of}
 use Rattle.proof_requests.specs.Reading.{IsReadDone, StartsBare}
@@ -41,15 +45,15 @@ pub record Exchange : Type 0 where
 
 -- The servers that run; of each server its open requests, its open reads that need no entry, and a number above all that it gave to either;
 -- those that aren't open; and the frames that have left.
-pub record Cores : Type 0 where
-  pub cores : ℕ → Option CoreView
+pub record Cores (S : Type 0) : Type 0 where
+  pub cores : ℕ → Option (CoreView S)
   pub open_at : ℕ → List Asked
   pub reads_at : ℕ → List Asked
   pub next : ℕ → ℕ
   pub done : List Exchange
   pub sent : List (List ℕ)
 
-abbrev pub no_cores : Cores
+abbrev pub no_cores : {S : Type 0} → Cores S
 no_cores = record { cores = λ id. None; open_at = λ id. []; reads_at = λ id. []; next = λ id. 0; done = []; sent = [] }
 
 -- one value in another's place
@@ -74,7 +78,7 @@ unanswered id told [] = []
 unanswered id told (a ∷ asked) = record { server = id; asked = a; answer = None; told = told } ∷ unanswered id told asked
 
 -- after a call of a server from which this left, by when there were so many actions: the first requests are answered, and the first reads
-abbrev pub after_call : ℕ → List Output → CoreView → ℕ → Cores → Cores
+abbrev pub after_call : {S : Type 0} → ℕ → List (Output S) → CoreView S → ℕ → Cores S → Cores S
 after_call id out new told s = record s {
   cores = with_one id (Some new) s.cores;
   open_at = with_one id (drop (length (replies_of out)) (s.open_at id)) s.open_at;
@@ -84,7 +88,7 @@ after_call id out new told s = record s {
 }
 
 -- after a request was taken
-abbrev pub after_request : ℕ → Token → Asks → CoreView → ℕ → Cores → Cores
+abbrev pub after_request : {S : Type 0} → ℕ → Token → Asks → CoreView S → ℕ → Cores S → Cores S
 after_request id token operation new came s = record s {
   cores = with_one id (Some new) s.cores;
   open_at = with_one id (s.open_at id ++ record { number = s.next id; token = token; operation = operation; came = came } ∷ []) s.open_at;
@@ -92,7 +96,7 @@ after_request id token operation new came s = record s {
 }
 
 -- after a read was taken that needs no entry
-abbrev pub after_read : ℕ → Token → CoreView → ℕ → Cores → Cores
+abbrev pub after_read : {S : Type 0} → ℕ → Token → CoreView S → ℕ → Cores S → Cores S
 after_read id token new came s = record s {
   cores = with_one id (Some new) s.cores;
   reads_at = with_one id (s.reads_at id ++ record { number = s.next id; token = token; operation = Read; came = came } ∷ []) s.reads_at;
@@ -100,7 +104,7 @@ after_read id token new came s = record s {
 }
 
 -- after a crash, and a start; or after a server has stopped for good
-abbrev pub after_end : ℕ → Option CoreView → ℕ → Cores → Cores
+abbrev pub after_end : {S : Type 0} → ℕ → Option (CoreView S) → ℕ → Cores S → Cores S
 after_end id new told s = record s {
   cores = with_one id new s.cores;
   open_at = with_one id [] s.open_at;
@@ -109,7 +113,7 @@ after_end id new told s = record s {
 }
 
 -- it has no answer yet: a request, or a read that needs no entry
-abbrev pub IsOpen : Cores → ℕ → Asked → Type 0
+abbrev pub IsOpen : {S : Type 0} → Cores S → ℕ → Asked → Type 0
 IsOpen s id a = Contains (s.open_at id) a ⊎ Contains (s.reads_at id) a
 
 -- the request wasn't done, and never will be
@@ -128,7 +132,7 @@ AreOver [] = Unit {0}
 AreOver (e ∷ rest) = AllByRecursion (AreTwoRequests e) rest × AreOver rest
 
 -- A request of this server, with this number, is open or over: a write of this value, which came before an action.
-pub record WasWritten (s : Cores) (id n call : ℕ) (v : Value) : Type 0 where
+pub record WasWritten {S : Type 0} (s : Cores S) (id n call : ℕ) (v : Value) : Type 0 where
   pub asked : Asked
   pub number_is : asked.number ≡ n
   pub wrote : Wrote asked v
@@ -150,30 +154,13 @@ module _ (given : Given) (actions : List Action) (placed : List Placed) where
   WasTold e x = IsTrue given actions placed e.server e.asked x
 
   -- one that isn't open any more
-  pub record IsOver (s : Cores) (e : Exchange) : Type 0 where
+  pub record IsOver {S : Type 0} (s : Cores S) (e : Exchange) : Type 0 where
     pub below : e.asked.number < s.next e.server
     pub apart : (a : Asked) → IsOpen s e.server a → e.asked.number ≢ a.number
     pub early : e.told ≤ length actions
     pub was_told : (x : Answer) → e.answer ≡ Some x → WasTold e x
 
-  -- The servers and their clients are beside the model after these actions, and these values.
-  pub record AreBeside (s : Cores) : Type 0 where
-    pub may : AllMayAct given actions (new_cluster given)
-    pub placed_are : ArePlaced given actions placed
-    pub running : (id : ℕ) (v : CoreView) → s.cores id ≡ Some v → IsCore given actions placed id v (s.open_at id)
-    pub reading : (id : ℕ) (v : CoreView) → s.cores id ≡ Some v → IsReader given actions id v (s.reads_at id)
-    pub bare : (id : ℕ) → StartsBare actions id
-    pub numbers : (id : ℕ) (a : Asked) → IsOpen s id a → a.number < s.next id
-    pub rises : (id : ℕ) → Rises (s.open_at id)
-    pub reads_rise : (id : ℕ) → Rises (s.reads_at id)
-    pub are_reads : (id : ℕ) (a : Asked) → Contains (s.reads_at id) a → a.operation ≡ Read
-    pub apart : (id : ℕ) (a b : Asked) → Contains (s.open_at id) a → Contains (s.reads_at id) b → a.number ≢ b.number
-    pub values : (w : Placed) (id n : ℕ) → Contains placed w → w.by ≡ Some (id, n) → WasWritten s id n w.call w.value
-    pub over : AllByRecursion (IsOver s) s.done
-    pub once : AreOver s.done
-    pub frames : AllByRecursion (IsSent (after_actions given actions (new_cluster given)).released.bag) s.sent
-
-  module _ {S R : Type 0} (m : Object S R) (s : Cores) where
+  module _ {S T R : Type 0} (m : Object T R) (s : Cores S) where
     -- An update is of a value that was proposed: one that a client wrote, who wasn't told that it wasn't done; or a marker.
     pub record IsWritten (o : Operation R) (of : Placed) : Type 0 where
       pub there : Contains placed of
@@ -221,72 +208,123 @@ module _ (given : Given) (actions : List Action) (placed : List Placed) where
       pub writes : (e : Exchange) (bytes : List ℕ) (index : ℕ) → Contains s.done e → e.asked.operation ≡ Write bytes → e.answer ≡ Some (Ok index) → HasWrite updates values e bytes index
       pub reads : (e : Exchange) (index : ℕ) → Contains s.done e → e.asked.operation ≡ Read → e.answer ≡ Some (Ok index) → HasRead name queries e index
 
+-- The servers and their clients are beside the model after these actions, and these values.
+pub record AreBeside {S : Type 0} (app : Application S) (c : Codec S) (given : Given) (actions : List Action) (placed : List Placed)
+    (s : Cores S) : Type 0 where
+  pub may : AllMayAct given actions (new_cluster given)
+  pub placed_are : ArePlaced given actions placed
+  pub running : (id : ℕ) (v : CoreView S) → s.cores id ≡ Some v → IsCore app given actions placed id v (s.open_at id)
+  pub reading : (id : ℕ) (v : CoreView S) → s.cores id ≡ Some v → IsReader given actions id v (s.reads_at id)
+  pub bare : (id : ℕ) → StartsBare actions id
+  pub numbers : (id : ℕ) (a : Asked) → IsOpen s id a → a.number < s.next id
+  pub rises : (id : ℕ) → Rises (s.open_at id)
+  pub reads_rise : (id : ℕ) → Rises (s.reads_at id)
+  pub are_reads : (id : ℕ) (a : Asked) → Contains (s.reads_at id) a → a.operation ≡ Read
+  pub apart : (id : ℕ) (a b : Asked) → Contains (s.open_at id) a → Contains (s.reads_at id) b → a.number ≢ b.number
+  pub values : (w : Placed) (id n : ℕ) → Contains placed w → w.by ≡ Some (id, n) → WasWritten s id n w.call w.value
+  pub over : AllByRecursion (IsOver given actions placed s) s.done
+  pub once : AreOver s.done
+  pub frames : AllByRecursion (IsSent app c (after_actions given actions (new_cluster given)).released.bag) s.sent
+
 -- From no requests on, whatever servers do, they and their clients stay beside the model.
 
--- they are so after a call of a server, by these actions; and its replies answer the first of its open requests, and of its open reads
-pub record StayBy (given : Given) (actions : List Action) (placed : List Placed) (s : Cores) (id : ℕ) (out : List Output) (new : CoreView) (took : List Action) : Type 0 where
-  pub more : List Placed
-  pub beside : AreBeside given (actions ++ took) (placed ++ more) (after_call id out new (length (actions ++ took)) s)
-  pub first : AnswerFirst (replies_of out) (s.open_at id)
-  pub first_reads : AnswerFirst (read_replies_of out) (s.reads_at id)
+module _ {S : Type 0} (app : Application S) (c : Codec S) where
+  -- they are so after a call of a server, by these actions; and its replies answer the first of its open requests, and of its open reads
+  pub record StayBy (given : Given) (actions : List Action) (placed : List Placed) (s : Cores S) (id : ℕ) (out : List (Output S)) (new : CoreView S)
+      (took : List Action) : Type 0 where
+    pub more : List Placed
+    pub beside : AreBeside app c given (actions ++ took) (placed ++ more) (after_call id out new (length (actions ++ took)) s)
+    pub first : AnswerFirst (replies_of out) (s.open_at id)
+    pub first_reads : AnswerFirst (read_replies_of out) (s.reads_at id)
 
--- a call of this kind, at a server that runs
-abbrev pub StaysBy : (Does : CoreView → List Output → CoreView → Type 0) → ((id : ℕ) (old : CoreView) (out : List Output) (new : CoreView) → Does old out new → List Action) → Type 0
-StaysBy Does took =
-    (given : Given) → IsWellFormed given → (actions : List Action) (placed : List Placed) (s : Cores) → AreBeside given actions placed s
-    → (id : ℕ) (old new : CoreView) (out : List Output) → s.cores id ≡ Some old → (d : Does old out new)
-    → StayBy given actions placed s id out new (took id old out new d)
+  -- they are so by steps of the model's server which are these, packed
+  abbrev pub StayBySteps : Given → List Action → List Placed → Cores S → ℕ → List (Output S) → CoreView S → List (PackedStep S) → Type 0
+  StayBySteps given actions placed s id out new taken =
+      (steps : List Step) × AreSteps app steps taken × StayBy given actions placed s id out new (taking id steps)
 
--- a frame that is received is one that has left a server: late, again, or never; or no packet, whoever sent it
-abbrev pub StaysByFrame : Type 0
-StaysByFrame =
-    (given : Given) → IsWellFormed given → (actions : List Action) (placed : List Placed) (s : Cores) → AreBeside given actions placed s
-    → (id : ℕ) (old new : CoreView) (out : List Output) (bytes : List ℕ) → s.cores id ≡ Some old → Contains s.sent bytes ⊎ (slice_get bytes 0 ≢ Some 0)
-    → (d : Receives bytes old out new) → StayBy given actions placed s id out new (taking id (received old out new bytes d))
+  -- a call of this kind, at a server that runs
+  abbrev pub StaysBy : (Does : CoreView S → List (Output S) → CoreView S → Type 0)
+      → ((old : CoreView S) (out : List (Output S)) (new : CoreView S) → Does old out new → List (PackedStep S)) → Type 0
+  StaysBy Does taken =
+      (given : Given) → IsWellFormed given → (actions : List Action) (placed : List Placed) (s : Cores S) → AreBeside app c given actions placed s
+      → (id : ℕ) (old new : CoreView S) (out : List (Output S)) → s.cores id ≡ Some old → (d : Does old out new)
+      → StayBySteps given actions placed s id out new (taken old out new d)
 
-abbrev pub StaysByRequest : Type 0
-StaysByRequest =
-    (given : Given) (actions : List Action) (placed : List Placed) (s : Cores) → AreBeside given actions placed s
-    → (id : ℕ) (old new : CoreView) (token : Token) (operation : Asks) → s.cores id ≡ Some old → Admits token operation old new
-    → AreBeside given actions placed (after_request id token operation new (length actions) s)
+  -- a frame that is received is one that has left a server: late, again, or never; or no packet, whoever sent it
+  abbrev pub StaysByFrame : Type 0
+  StaysByFrame =
+      (given : Given) → IsWellFormed given → (actions : List Action) (placed : List Placed) (s : Cores S) → AreBeside app c given actions placed s
+      → (id : ℕ) (old new : CoreView S) (out : List (Output S)) (bytes : List ℕ) → s.cores id ≡ Some old
+      → Contains s.sent bytes ⊎ (slice_get bytes 0 ≢ Some 0) → (d : Receives app c bytes old out new)
+      → StayBySteps given actions placed s id out new (received app old out new c bytes d)
 
--- a read that needs no entry
-abbrev pub StaysByRead : Type 0
-StaysByRead =
-    (given : Given) (actions : List Action) (placed : List Placed) (s : Cores) → AreBeside given actions placed s
-    → (id : ℕ) (old new : CoreView) (token : Token) → s.cores id ≡ Some old → AdmitsRead token old new
-    → AreBeside given actions placed (after_read id token new (length actions) s)
+  -- records came on disk, up to a position: so many steps leave
+  abbrev pub StaysByRelease : Type 0
+  StaysByRelease =
+      (position : ℕ) (given : Given) → IsWellFormed given → (actions : List Action) (placed : List Placed) (s : Cores S)
+      → AreBeside app c given actions placed s
+      → (id : ℕ) (old new : CoreView S) (out : List (Output S)) → s.cores id ≡ Some old → Releases app c position old out new
+      → StayBy given actions placed s id out new (flushes id (released position old))
 
--- a start on what a crash left of the server's file, which is empty at first: the model's server crashes
-abbrev pub StaysByStart : Type 0
-StaysByStart =
-    (given : Given) (actions : List Action) (placed : List Placed) (s : Cores) → AreBeside given actions placed s
-    → (log : LogName) (k : ℕ) (batches : List (List Record)) (n : ℕ) (o : OpenedCore) → Contains given.ids log.node
-    → let server = server_after given actions log.node in
-    IsCut log k server batches n → Begins given log (cut_file log k server batches n) o
-    → (survive : ℕ) × AreBeside given (actions ++ Crashes log.node survive 0 ∷ []) placed (after_end log.node (Some o.core) (length actions + 1) s)
+  abbrev pub StaysByRequest : Type 0
+  StaysByRequest =
+      (given : Given) (actions : List Action) (placed : List Placed) (s : Cores S) → AreBeside app c given actions placed s
+      → (id : ℕ) (old new : CoreView S) (token : Token) (operation : Asks) → s.cores id ≡ Some old → Admits token operation old new
+      → AreBeside app c given actions placed (after_request id token operation new (length actions) s)
 
--- as many steps have come on disk as a start has read there (`raft_server`)
-abbrev pub StaysByReading : Type 0
-StaysByReading =
-    (given : Given) (actions : List Action) (placed : List Placed) (s : Cores) → AreBeside given actions placed s
-    → (log : LogName) (k : ℕ) (bytes : List ℕ) (o : OpenedCore) → Contains given.ids log.node → Begins given log bytes o
-    → (c : OpensCrashed given log k 0 (server_after given actions log.node) bytes (record { server = o.core.server; end = o.end }))
-    → AreBeside given (actions ++ Crashes log.node c.survive 0 ∷ []) placed (after_end log.node (Some o.core) (length actions + 1) s)
+  -- a read that needs no entry
+  abbrev pub StaysByRead : Type 0
+  StaysByRead =
+      (given : Given) (actions : List Action) (placed : List Placed) (s : Cores S) → AreBeside app c given actions placed s
+      → (id : ℕ) (old new : CoreView S) (token : Token) → s.cores id ≡ Some old → AdmitsRead token old new
+      → AreBeside app c given actions placed (after_read id token new (length actions) s)
 
-pub record StayBeside : Type 0 where
-  pub first : (given : Given) → AreBeside given [] [] no_cores
-  pub starts : StaysByStart
-  pub reads : StaysByReading
-  pub stops : (given : Given) (actions : List Action) (placed : List Placed) (s : Cores) → AreBeside given actions placed s → (id : ℕ)
-      → AreBeside given actions placed (after_end id None (length actions) s)
-  pub requests : StaysByRequest
-  pub rule_reads : StaysByRead
-  pub initializes : StaysBy Initializes (λ id old out new d. taking id (initialized old))
-  pub ticks : StaysBy Ticks (λ id old out new d. taking id (ticked old out new d))
-  pub receives : StaysByFrame
-  pub writes : StaysBy Writes (λ id old out new d. taking id (written old out new d))
-  pub releases : (position : ℕ) → StaysBy (Releases position) (λ id old out new d. flushes id (released position old))
+  -- A start on what a crash left of the server's file, which is empty at first: the model's server crashes. What no start reads may differ
+  -- on disk, as it does once a new log has begun.
+  abbrev pub StaysByStart : Type 0
+  StaysByStart =
+      (given : Given) → IsWellFormed given → (actions : List Action) (placed : List Placed) (s : Cores S) → AreBeside app c given actions placed s
+      → (log : LogName) (k : ℕ) (disk : PackedDisk S) (batches : List (List (PackedRecord (Packed S)))) (n : ℕ) (o : OpenedCore S)
+      → Contains given.ids log.node
+      → let server = server_packed app (server_after given actions log.node) in
+      AreSameDisks app server.disk disk
+      → IsCut app c log k (record server { disk = disk }) batches n
+      → Begins app c given log (cut_file app c log k (record server { disk = disk }) batches n) o
+      → (survive : ℕ) × AreBeside app c given (actions ++ Crashes log.node survive 0 ∷ []) placed
+      (after_end log.node (Some o.core) (length actions + 1) s)
+
+  -- as many steps have come on disk as a start has read there (`raft_packed_server`)
+  abbrev pub StaysByReading : Type 0
+  StaysByReading =
+      (given : Given) → IsWellFormed given → (actions : List Action) (placed : List Placed) (s : Cores S) → AreBeside app c given actions placed s
+      → (log : LogName) (k : ℕ) (disk : PackedDisk S) (bytes : List ℕ) (o : OpenedCore S) → Contains given.ids log.node
+      → let server = server_packed app (server_after given actions log.node) in
+      AreSameDisks app server.disk disk → Begins app c given log bytes o
+      → (opens : OpensCrashed app c given log k 0 (record server { disk = disk }) bytes (record { server = o.core.server; end = o.end }))
+      → AreBeside app c given (actions ++ Crashes log.node opens.survive 0 ∷ []) placed
+      (after_end log.node (Some o.core) (length actions + 1) s)
+
+  -- a server begins a new log: nothing leaves, and the model's server does nothing
+  abbrev pub StaysByNewLog : Type 0
+  StaysByNewLog =
+      (given : Given) (actions : List Action) (placed : List Placed) (s : Cores S) → AreBeside app c given actions placed s
+      → (id : ℕ) (log : LogName) (old new : CoreView S) (w : Written) → s.cores id ≡ Some old → BeginsNewLog c log old w new
+      → AreBeside app c given actions placed (record s { cores = with_one id (Some new) s.cores })
+
+  pub record StayBeside : Type 0 where
+    pub first : (given : Given) → AreBeside app c given [] [] no_cores
+    pub starts : StaysByStart
+    pub reads : StaysByReading
+    pub stops : (given : Given) (actions : List Action) (placed : List Placed) (s : Cores S) → AreBeside app c given actions placed s → (id : ℕ)
+        → AreBeside app c given actions placed (after_end id None (length actions) s)
+    pub requests : StaysByRequest
+    pub rule_reads : StaysByRead
+    pub initializes : StaysBy (Initializes app) (λ old out new d. initialized app old)
+    pub ticks : StaysBy (Ticks app) (λ old out new d. ticked app old out new d)
+    pub receives : StaysByFrame
+    pub writes : StaysBy (Writes app c) (λ old out new d. written app c old out new d)
+    pub releases : StaysByRelease
+    pub new_logs : StaysByNewLog
 
 -- names of requests that are over: no two have one
 abbrev pub AreNames : List Exchange → (Exchange → ℕ) → Type 0
@@ -294,8 +332,9 @@ AreNames done name = (e f : Exchange) → Contains done e → Contains done f �
 
 -- So what clients asked and were told is a history of clients of the model's servers, and linearizable, whatever the object and
 -- whatever its reads ask for.
-abbrev pub CoresSeeOne : {S R : Type 0} → Object S R → Type 0
-CoresSeeOne {S} {R} m =
-    (given : Given) → IsWellFormed given → (actions : List Action) (placed : List Placed) (s : Cores) → AreBeside given actions placed s
+abbrev pub CoresSeeOne : {S T R : Type 0} → Application S → Codec S → Object T R → Type 0
+CoresSeeOne {S} {T} {R} app c m =
+    (given : Given) → IsWellFormed given → (actions : List Action) (placed : List Placed) (s : Cores S) → AreBeside app c given actions placed s
     → (name : Exchange → ℕ) → AreNames s.done name
-    → (updates : List (Operation R)) × (queries : List (Operation R)) × IsToldHistory given actions placed m s name updates queries × IsLinearizable m (updates ++ queries)
+    → (updates : List (Operation R)) × (queries : List (Operation R)) × IsToldHistory given actions placed m s name updates queries
+    × IsLinearizable m (updates ++ queries)

@@ -1,17 +1,33 @@
 -- Frames that leave servers, beside the messages that have left the model's.
 use Rattle.std.specs.Prelude.{ℕ, ◌≡◌, ◌≢◌, ◌⊎◌, Contains, List, [], ◌∷◌, Some, slice_get}
 use Rattle.raft_calls.specs.declared.message.Message.{Message}
-use Rattle.raft_wire.specs.Messages.{packet}
+use Rattle.raft_codec.specs.Codec.{Codec}
+use Rattle.proof_packed.specs.Nodes.{packed_message}
+use Rattle.proof_packed.specs.Stores.{Application, Packed}
+use Rattle.raft_core.specs.raft_packed_wire.declared.packet.SentMessage.{SentMessage}
+use Rattle.raft_core.specs.raft_packed_wire.Messages.{packed_packet, received}
+use Rattle.raft_core.specs.raft_packed_wire.Values.{kept}
 use Rattle.raft_core.specs.declared.output.Output.{Output}
 use Rattle.raft_core.specs.declared.output.Output.TheVariants as outputs
 use Rattle.raft_core.specs.Outputs.{packet_frame, packet_of}
 
 -- the frames among outputs
-abbrev pub frames_of : List Output → List (List ℕ)
+abbrev pub frames_of : {S : Type 0} → List (Output S) → List (List ℕ)
 frames_of [] = []
 frames_of (outputs.Send to bytes ∷ out) = bytes ∷ frames_of out
 frames_of (_ ∷ out) = frames_of out
 
--- The frame of a message that has left a server, in a packet; or no packet: those begin with 0.
-abbrev pub IsSent : List Message → List ℕ → Type 0
-IsSent bag bytes = ((start : ℕ) × (m : Message) × Contains bag m × packet.fits (packet_of start m) × (bytes ≡ packet_frame start m)) ⊎ (slice_get bytes 0 ≢ Some 0)
+module _ {S : Type 0} (app : Application S) (c : Codec S) (bag : List Message) where
+  -- the bytes are the frame of a packet with a message that has left a server, packed
+  pub record IsPacket (bytes : List ℕ) : Type 0 where
+    pub start : ℕ
+    pub packet : SentMessage (Packed S)
+    pub message : Message
+    pub left : Contains bag message
+    pub brings : received app packet ≡ packed_message app message
+    pub fits : (packed_packet (kept c)).fits (packet_of start packet)
+    pub frame : bytes ≡ packet_frame c start packet
+
+  -- so they are; or they are no packet: those begin with 0
+  abbrev pub IsSent : List ℕ → Type 0
+  IsSent bytes = IsPacket bytes ⊎ (slice_get bytes 0 ≢ Some 0)

@@ -1,3 +1,8 @@
+pub use Rattle.raft_core.specs.proof_logs
+pub use Rattle.raft_core.specs.proof_packed_servers
+pub use Rattle.raft_core.specs.raft_packed_server
+pub mod proof_answers
+pub mod raft_core
 pub mod Entries  -- the entries of values that are proposed together
 pub mod OnDisk  -- the node of the steps that are on disk
 pub mod Requests  -- requests of a server's clients beside the actions of the model

@@ -2,27 +2,33 @@
 use Rattle.std.specs.Prelude.{ℕ, ◌<◌, ◌≤◌, ◌≡◌, Contains, true, List, [], ◌∷◌, ◌++◌, length, take, if◌then◌else◌}
 use Rattle.std.specs.List.{AllByRecursion}
 use Rattle.raft_calls.specs.declared.lead.Answer as node_answer
+use Rattle.raft_codec.specs.Codec.{Codec}
 use Rattle.raft_node.specs.declared.given.Given.{Given}
 use Rattle.raft_node.specs.WellFormed.{IsWellFormed}
-use Rattle.proof_servers.specs.Servers.{Action, AllMayAct, new_cluster}
+use Rattle.proof_servers.specs.Servers.{Action, AllMayAct, Step, WaitingStep, new_cluster}
+use Rattle.proof_packed.specs.Stores.{Application}
+use Rattle.raft_core.specs.proof_packed_servers.Servers.{PackedStep}
 use Rattle.proof_answers.specs.Waiting.{waiting}
 use Rattle.raft_answers.specs.declared.answer.Answer.{Answer}
 use Rattle.raft_answers.specs.declared.answer.Answer.TheVariants.{Ok}
 use Rattle.raft_answers.specs.declared.answer.Reply.{Reply}
 use Rattle.raft_answers.specs.declared.request.Operation.TheVariants.{Read}
 use Rattle.raft_answers.specs.declared.request.Token.{Token}
-use Rattle.raft_server.specs.Represents.{said_by}
 use Rattle.raft_core.specs.declared.output.Output.{Output}
 use Rattle.raft_core.specs.declared.reads.Reader.{Reader}
-use Rattle.raft_core.specs.Calls.{AdmitsRead, Releases, Ticks, Writes}
+use Rattle.raft_core.specs.Calls.{AdmitsRead, Receives, Releases, Ticks, Writes}
 use Rattle.raft_core.specs.Laws.{read_replies_of}
 use Rattle.raft_core.specs.Reads.{ReadsView, RoundView}
 use Rattle.raft_core.specs.Views.{CoreView}
-use Rattle.proof_requests.specs.Actions.{Initializes, flushes, initialized, received, released, taking, ticked, written}
-use Rattle.proof_requests.specs.Laws.{ReceivesSent}
+use Rattle.proof_requests.specs.Actions.{AreSteps, Initializes, flushes, initialized, received, released, taking, ticked, written}
 use Rattle.proof_requests.specs.OnDisk.{flushed_node}
 use Rattle.proof_requests.specs.Reading.{IsAskedFor, IsHanded, IsReadDone, StartsBare}
 use Rattle.proof_requests.specs.Requests.{AllPairs, Asked, IsCore, Placed, server_after}
+
+-- what the steps that wait answer
+abbrev pub answers_waiting : List WaitingStep → List node_answer.Answer
+answers_waiting [] = []
+answers_waiting (w ∷ ws) = w.outputs.answers ++ answers_waiting ws
 
 -- what the node has answered, and what hasn't left
 abbrev pub pending : List RoundView → List node_answer.Answer
@@ -51,10 +57,10 @@ module _ (given : Given) (actions : List Action) (id : ℕ) where
 
   -- A server's reads beside the model: it has handed out what the state machine had taken by the last step on disk, and its steps that wait say
   -- the last round's answer, or none.
-  pub record IsReader (v : CoreView) (reading : List Asked) : Type 0 where
+  pub record IsReader {S : Type 0} (v : CoreView S) (reading : List Asked) : Type 0 where
     pub bare : StartsBare actions id
     pub handed : IsHanded (flushed_node given actions id).store.applied v.executed
-    pub pending_is : (said_by (server_after given actions id).waiting).answers ≡ pending v.reads.rounds
+    pub pending_is : answers_waiting (server_after given actions id).waiting ≡ pending v.reads.rounds
     pub reads : AreReads v.reads reading
 
   -- A read that is told an index is done, by an action before; of any other answer nothing is said: a read has no effect.
@@ -73,29 +79,43 @@ module _ (given : Given) (actions : List Action) (id : ℕ) where
     pub each : AllPairs IsReadAnswered closed replies
 
 -- what a call does with reads, beside these actions
-pub record KeepsReads (given : Given) (actions : List Action) (id : ℕ) (reading : List Asked) (out : List Output) (new : CoreView) (took : List Action) : Type 0 where
+pub record KeepsReads {S : Type 0} (given : Given) (actions : List Action) (id : ℕ) (reading : List Asked) (out : List (Output S))
+    (new : CoreView S) (took : List Action) : Type 0 where
   pub left : List Asked
   pub answered : AreReadAnswered given (actions ++ took) id reading (read_replies_of out) left
   pub reader : IsReader given (actions ++ took) id new left
 
-abbrev pub OfReadCalls : (Does : Given → List Action → CoreView → List Output → CoreView → Type 0)
-    → ((given : Given) (actions : List Action) (id : ℕ) (old : CoreView) (out : List Output) (new : CoreView) → Does given actions old out new → List Action) → Type 0
-OfReadCalls Does took =
-    (given : Given) → IsWellFormed given → (actions : List Action) → AllMayAct given actions (new_cluster given) → (placed : List Placed) (id : ℕ) (asked reading : List Asked) (old new : CoreView) (out : List Output)
-    → IsCore given actions placed id old asked → IsReader given actions id old reading → (d : Does given actions old out new)
-    → KeepsReads given actions id reading out new (took given actions id old out new d)
+module _ {S : Type 0} (app : Application S) where
+  -- each call of this kind does so, by whichever steps of the model's server are the call's, packed, and may be taken there
+  abbrev pub OfReadCalls : (Does : CoreView S → List (Output S) → CoreView S → Type 0)
+      → ((old : CoreView S) (out : List (Output S)) (new : CoreView S) → Does old out new → List (PackedStep S)) → Type 0
+  OfReadCalls Does taken =
+      (given : Given) → IsWellFormed given → (actions : List Action) → AllMayAct given actions (new_cluster given)
+      → (placed : List Placed) (id : ℕ) (asked reading : List Asked) (old new : CoreView S) (out : List (Output S))
+      → IsCore app given actions placed id old asked → IsReader given actions id old reading → (d : Does old out new)
+      → (steps : List Step) → AreSteps app steps (taken old out new d) → AllMayAct given (actions ++ taking id steps) (new_cluster given)
+      → KeepsReads given actions id reading out new (taking id steps)
+
+  -- records came on disk, up to this position
+  abbrev pub OfReadReleases : Codec S → ℕ → Type 0
+  OfReadReleases c position =
+      (given : Given) → IsWellFormed given → (actions : List Action) → AllMayAct given actions (new_cluster given)
+      → (placed : List Placed) (id : ℕ) (asked reading : List Asked) (old new : CoreView S) (out : List (Output S))
+      → IsCore app given actions placed id old asked → IsReader given actions id old reading → Releases app c position old out new
+      → KeepsReads given actions id reading out new (flushes id (released position old))
 
 -- a read that is taken waits behind the others
-abbrev pub AdmitsOneRead : Type 0
-AdmitsOneRead =
-    (given : Given) (actions : List Action) (id : ℕ) (reading : List Asked) (old new : CoreView) (token : Token) (number : ℕ) → IsReader given actions id old reading → AdmitsRead token old new
+abbrev pub AdmitsOneRead : Type 0 → Type 0
+AdmitsOneRead S =
+    (given : Given) (actions : List Action) (id : ℕ) (reading : List Asked) (old new : CoreView S) (token : Token) (number : ℕ)
+    → IsReader given actions id old reading → AdmitsRead token old new
     → IsReader given actions id new (reading ++ record { number = number; token = token; operation = Read; came = length actions } ∷ [])
 
 -- the calls
-pub record ReadsAreKept : Type 0 where
-  pub initializes : OfReadCalls (λ given actions old out new. Initializes old out new) (λ given actions id old out new d. taking id (initialized old))
-  pub ticks : OfReadCalls (λ given actions old out new. Ticks old out new) (λ given actions id old out new d. taking id (ticked old out new d))
-  pub receives : (bytes : List ℕ) → OfReadCalls (λ given actions old out new. ReceivesSent given actions bytes old out new) (λ given actions id old out new d. taking id (received old out new bytes d.1))
-  pub writes : OfReadCalls (λ given actions old out new. Writes old out new) (λ given actions id old out new d. taking id (written old out new d))
-  pub releases : (position : ℕ) → OfReadCalls (λ given actions old out new. Releases position old out new) (λ given actions id old out new d. flushes id (released position old))
-  pub admits_read : AdmitsOneRead
+pub record ReadsAreKept {S : Type 0} (app : Application S) (c : Codec S) : Type 0 where
+  pub initializes : OfReadCalls app (Initializes app) (λ old out new d. initialized app old)
+  pub ticks : OfReadCalls app (Ticks app) (λ old out new d. ticked app old out new d)
+  pub receives : (bytes : List ℕ) → OfReadCalls app (Receives app c bytes) (λ old out new d. received app old out new c bytes d)
+  pub writes : OfReadCalls app (Writes app c) (λ old out new d. written app c old out new d)
+  pub releases : (position : ℕ) → OfReadReleases app c position
+  pub admits_read : AdmitsOneRead S

@@ -13,8 +13,10 @@ use Rattle.raft_answers.specs.declared.request.Token.{Token}
 use Rattle.raft_answers.specs.Requests.{Open}
 use Rattle.proof_servers.specs.Servers.{Action, Crashes, Server, after_actions, new_cluster}
 use Rattle.proof_answers.specs.Answers.{Proposed}
+use Rattle.proof_packed.specs.Stores.{Application}
+use Rattle.raft_core.specs.proof_packed_servers.Servers.{server_packed}
+use Rattle.raft_core.specs.raft_packed_server.Represents.{Represents}
 use Rattle.raft_core.specs.Views.{CoreView}
-use Rattle.raft_server.specs.Represents.{Represents}
 
 -- A request that a server took: its number, of which the server gives no two the same, its token, what it asks for, and how
 -- many actions there had been when it came.
@@ -119,10 +121,11 @@ module _ (given : Given) (actions : List Action) where
         pub waits : AllPairs IsWaiting o.waiting waiting
         pub rises : Rises asked
 
-      -- A server stands for the model's server after these actions, and its clients wait for what they asked for.
-      pub record IsCore (v : CoreView) (asked : List Asked) : Type 0 where
-        pub member : Contains given.ids id
-        pub own : v.id ≡ id
-        pub given_is : v.server.given ≡ given
-        pub stands : Represents (server_after id) v.server
-        pub open_are : AreOpen v.requests asked
+-- A server stands for the model's server after these actions, packed, and its clients wait for what they asked for.
+pub record IsCore {S : Type 0} (app : Application S) (given : Given) (actions : List Action) (placed : List Placed) (id : ℕ) (v : CoreView S)
+    (asked : List Asked) : Type 0 where
+  pub member : Contains given.ids id
+  pub own : v.id ≡ id
+  pub given_is : v.server.given ≡ given
+  pub stands : Represents (server_packed app (server_after given actions id)) v.server
+  pub open_are : AreOpen given actions placed id v.requests asked

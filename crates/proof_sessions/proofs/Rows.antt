@@ -1,7 +1,7 @@
 -- A worked history: a client's request isn't answered, it asks again, and is; then it reads. The request's commands were run once, at the moment
 -- of the first attempt.
 use Rattle.std.proofs.Common.{ℕ, ◌<◌, ◌≡◌, List, [], ◌∷◌, Some, None, Option, arith, sym, ap₂}
-use Rattle.raft_executor.specs.Executor as executor
+use Rattle.raft_executor.specs.KeyValue as key_value
 use Rattle.raft_machine.specs.Commands.{answer, run_all}
 use Rattle.raft_machine.specs.Machine.{State, apply, started}
 use Rattle.raft_machine.specs.Space.{Space, advanced}
@@ -26,10 +26,10 @@ module _ (commands : List Command) (query_of : ℕ → queries.Query) where
 
   -- after one attempt, and after two
   abbrev once : Option Request → State
-  once q = (executor.ran (started 1) q).0
+  once q = (key_value.ran (started 1) q).0
 
   abbrev twice : Option Request → Option Request → State
-  twice q p = (executor.ran (once q) p).0
+  twice q p = (key_value.ran (once q) p).0
 
   module _ (v w : Value) (x y : Entry) (first : request_in v ≡ Some (request 5)) (again : request_in w ≡ Some (request 9)) where
     abbrev operations : List (Operation Answer)
@@ -39,9 +39,9 @@ module _ (commands : List Command) (query_of : ℕ → queries.Query) where
         ∷ record { call = 3; ask = Query 0; returned = Some (record { events = 4; commands = 0; taken = 0; result = Some (Answered (answer ran.0 (query_of 0) ∷ [])) }) }
         ∷ []
 
-    repeat_told : (executor.ran (once (request_in v)) (request_in w)).1 ≡ Some (Answered ran.1)
+    repeat_told : (key_value.ran (once (request_in v)) (request_in w)).1 ≡ Some (Answered ran.1)
     unfolding apply
-    repeat_told = ap₂ (λ q p. (executor.ran (once q) p).1) first again
+    repeat_told = ap₂ (λ q p. (key_value.ran (once q) p).1) first again
 
     read_told : (let told : Answer = Some (Answered (answer (twice (request_in v) (request_in w)).space (query_of 0) ∷ [])) in told) ≡ Some (Answered (answer ran.0 (query_of 0) ∷ []))
     unfolding apply

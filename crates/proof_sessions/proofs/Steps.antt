@@ -4,7 +4,7 @@ use Rattle.std.specs.Prelude.{nat_eq, IfSome}
 use Rattle.std.specs.Option.{option_map_or}
 use Rattle.std.proofs.lemmas.Bool.{cases_eq, eqb-true, eqb-false, ltb-true, ltb-false}
 use Rattle.lru.specs.LruCache.{LruCache, lru_cache, put_entries}
-use Rattle.raft_executor.specs.Executor as executor
+use Rattle.raft_executor.specs.KeyValue as key_value
 use Rattle.raft_machine.specs.Commands.{run_all}
 use Rattle.raft_machine.specs.Machine.{State, apply, known, known_of, remembered}
 use Rattle.raft_machine.specs.Space.{advanced}
@@ -39,9 +39,9 @@ module _ (st : State) where
 
   -- nobody's request is run
   pub record IsIdle (q : Option Request) : Type 0 where
-    pub sessions : (executor.ran st q).0.sessions ≡ st.sessions
-    pub space : (executor.ran st q).0.space ≡ (run_request st.space q).0
-    pub told : (executor.ran st q).1 ≡ (run_request st.space q).1
+    pub sessions : (key_value.ran st q).0.sessions ≡ st.sessions
+    pub space : (key_value.ran st q).0.space ≡ (run_request st.space q).0
+    pub told : (key_value.ran st q).1 ≡ (run_request st.space q).1
 
   idle_request : (q : Option Request) → session_in q ≡ None → IsIdle q
   idle_request None e = record { sessions = refl; space = refl; told = refl }
@@ -56,10 +56,10 @@ module _ (st : State) where
   -- a session's request is run, and remembered
   pub record IsRun (q : Option Request) (s : Session) : Type 0 where
     pub replies : List Reply
-    pub space : (executor.ran st q).0.space ≡ (run_request st.space q).0
-    pub told : (executor.ran st q).1 ≡ (run_request st.space q).1
-    pub answered : (executor.ran st q).1 ≡ Some (outcome.Answered replies)
-    pub sessions : (executor.ran st q).0.sessions ≡ lru_cache (put_entries nat_eq st.sessions s.id (record { number = s.number; replies = replies })) st.sessions.cap
+    pub space : (key_value.ran st q).0.space ≡ (run_request st.space q).0
+    pub told : (key_value.ran st q).1 ≡ (run_request st.space q).1
+    pub answered : (key_value.ran st q).1 ≡ Some (outcome.Answered replies)
+    pub sessions : (key_value.ran st q).0.sessions ≡ lru_cache (put_entries nat_eq st.sessions s.id (record { number = s.number; replies = replies })) st.sessions.cap
 
   run_request_of : (q : Option Request) (s : Session) → session_in q ≡ Some s → known_at s ≡ None → IsRun q s
   run_request_of None s e k = absurd cc
@@ -76,7 +76,7 @@ module _ (st : State) where
       }
 
   -- a session's request is known
-  known_request : (q : Option Request) (s : Session) (x : Outcome) → session_in q ≡ Some s → known_at s ≡ Some x → executor.ran st q ≡ (st, Some x)
+  known_request : (q : Option Request) (s : Session) (x : Outcome) → session_in q ≡ Some s → known_at s ≡ Some x → key_value.ran st q ≡ (st, Some x)
   known_request None s x e k = absurd cc
   known_request (Some r) s x e k =
       let ran = run_all (advanced st.space r.moment) r.commands in

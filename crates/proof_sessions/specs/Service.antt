@@ -1,6 +1,6 @@
 -- The service as an object, with client sessions and without (Ongaro, Consensus: Bridging Theory and Practice, 6.3).
 use Rattle.std.specs.Prelude.{ℕ, [], ◌∷◌, Option, Some, None}
-use Rattle.raft_executor.specs.Executor as executor
+use Rattle.raft_executor.specs.KeyValue as key_value
 use Rattle.raft_machine.specs.Commands.{answer, run_all}
 use Rattle.raft_machine.specs.Machine.{State, started}
 use Rattle.raft_machine.specs.Space.{Space, advanced}
@@ -15,7 +15,7 @@ use Rattle.proof_clients.specs.Objects.{Ask, Object, Query, Update}
 
 -- the request that a value holds, if it holds one
 abbrev pub request_in : Value → Option Request
-request_in v = executor.request_in (payload.Value v)
+request_in v = key_value.request_in (payload.Value v)
 
 -- what an operation is answered; an update by a value that holds no request, nothing
 abbrev pub Answer : Type 0
@@ -42,7 +42,7 @@ keys query_of = record {
 abbrev pub service : ℕ → (ℕ → queries.Query) → Object State Answer
 service sessions query_of = record {
   first = started sessions;
-  update = λ st v. executor.ran st (request_in v);
+  update = λ st v. key_value.ran st (request_in v);
   query = λ st q. read query_of st.space q;
 }
 

@@ -2,4 +2,4 @@ use Rattle.proof_requests.proofs.Promises.{requests_are_kept}
 use Rattle.proof_requests.proofs.requests_are_kept.Goals as goal
 
 pub returns : goal.returns
-returns c = requests_are_kept
+returns g c = requests_are_kept g.M.Machine.application g.M.Machine.codec g.met.M.Machine.is_codec
