@@ -10,12 +10,12 @@ use Rattle.raft_answers.specs.declared.answer.Answer.{Answer}
 use Rattle.raft_answers.specs.declared.request.Operation.{Operation}
 use Rattle.raft_answers.specs.declared.request.Operation.TheVariants.{Read}
 use Rattle.raft_answers.specs.declared.request.Token.{Token}
-use Rattle.raft_core.specs.declared.output.Output.{Output}
-use Rattle.raft_core.specs.Laws.{read_replies_of, replies_of}
-use Rattle.raft_core.specs.Views.{CoreView}
+use Rattle.proof_requests.specs.raft_core.declared.output.Output.{Output}
+use Rattle.proof_requests.specs.raft_core.Laws.{read_replies_of, replies_of}
+use Rattle.proof_requests.specs.raft_core.Views.{CoreView}
 use Rattle.proof_clients.proofs.Sequences.{each_of, element, first_or}
 use Rattle.proof_clients.proofs.Slots.{here, slot_below, there}
-use Rattle.proof_answers.proofs.Prefixes.{slot_cases, slot_last, slot_more}
+use Rattle.proof_requests.proofs.proof_answers_proofs.Prefixes.{slot_cases, slot_last, slot_more}
 use Rattle.proof_requests.specs.Clients.{AnswerFirst, Cores, Exchange, IsOpen, after_call, after_end, after_read, after_request, answered_with, no_cores, unanswered, with_one}
 use Rattle.proof_requests.specs.Requests.{AllPairs, Asked}
 use Rattle.proof_requests.proofs.Lists.{all_append, all_in, contains_slot, none_in, pairs_append, slot_behind, slot_less}
@@ -37,7 +37,7 @@ contains_drop (suc k) [] x c = c
 contains_drop (suc k) (y ∷ xs) x c = there y xs x (contains_drop k xs x c)
 
 -- no requests
-pub clients_first : AreClients 0 no_cores [] []
+pub clients_first : {S : Type 0} → AreClients {S = S} 0 no_cores [] []
 clients_first = record {
   requests = [];
   each = tt;
@@ -122,7 +122,7 @@ left_was id k queue i a c =
     (λ d. subst (λ xs. Contains xs a) (one_other id i (drop k (queue id)) queue d) c)
     (cases_eq i id)
 
-module _ (count : ℕ) (s : Cores) (noted : List Noted) (answers : List (ℕ × Reply)) (h : AreClients count s noted answers) where
+module _ {S : Type 0} (count : ℕ) (s : Cores S) (noted : List Noted) (answers : List (ℕ × Reply)) (h : AreClients count s noted answers) where
   lengths : length answers ≡ length (those_answered s.done)
   lengths = pairs_length IsToldBy answers (those_answered s.done) h.answered
 
@@ -130,14 +130,14 @@ module _ (count : ℕ) (s : Cores) (noted : List Noted) (answers : List (ℕ × 
   rows = pairs_length IsNoted noted h.requests h.each
 
   -- replies of a server, to requests and to reads
-  module _ (id : ℕ) (out : List Output) (new : CoreView) (later : ℕ) (up : count ≤ later) (first : AnswerFirst (replies_of out) (s.open_at id)) (first_reads : AnswerFirst (read_replies_of out) (s.reads_at id)) where
+  module _ (id : ℕ) (out : List (Output S)) (new : CoreView S) (later : ℕ) (up : count ≤ later) (first : AnswerFirst (replies_of out) (s.open_at id)) (first_reads : AnswerFirst (read_replies_of out) (s.reads_at id)) where
     abbrev rs : List Reply
     rs = replies_of out
 
     abbrev qs : List Reply
     qs = read_replies_of out
 
-    abbrev after : Cores
+    abbrev after : Cores S
     after = after_call id out new later s
 
     abbrev fresh : List Exchange
@@ -209,9 +209,9 @@ module _ (count : ℕ) (s : Cores) (noted : List Noted) (answers : List (ℕ × 
     }
 
   -- a request comes, or a read: by it alone more is open
-  module _ (id : ℕ) (token : Token) (operation : Operation) (after : ℕ) (told_before : after ≡ length answers) (cores : ℕ → Option CoreView) (open_now reads_now : ℕ → List Asked)
+  module _ (id : ℕ) (token : Token) (operation : Operation) (after : ℕ) (told_before : after ≡ length answers) (cores : ℕ → Option (CoreView S)) (open_now reads_now : ℕ → List Asked)
       (was : (i : ℕ) (a : Asked) → Contains (open_now i) a ⊎ Contains (reads_now i) a → IsOpen s i a ⊎ ((i ≡ id) × (a ≡ record { number = s.next id; token = token; operation = operation; came = count }))) where
-    abbrev with_one_more : Cores
+    abbrev with_one_more : Cores S
     with_one_more = record s { cores = cores; open_at = open_now; reads_at = reads_now; next = with_one id (s.next id + 1) s.next }
 
     abbrev row : Noted
@@ -305,7 +305,7 @@ module _ (count : ℕ) (s : Cores) (noted : List Noted) (answers : List (ℕ × 
     }
 
   -- a request
-  pub clients_request : (id : ℕ) (token : Token) (operation : Operation) (new : CoreView) (after : ℕ) → after ≡ length answers
+  pub clients_request : (id : ℕ) (token : Token) (operation : Operation) (new : CoreView S) (after : ℕ) → after ≡ length answers
       → AreClients count (after_request id token operation new count s) (noted ++ record { node = id; token = token; operation = operation; after = after } ∷ []) answers
   clients_request id token operation new after told_before =
       let one : Asked = record { number = s.next id; token = token; operation = operation; came = count } in
@@ -313,7 +313,7 @@ module _ (count : ℕ) (s : Cores) (noted : List Noted) (answers : List (ℕ × 
       (λ i a. ⊎_elim (λ c. ⊎_elim (λ d. inl (inl d)) inr (was_or_one id s.open_at one i a c)) (λ c. inl (inr c)))
 
   -- a read that needs no entry
-  pub clients_read : (id : ℕ) (token : Token) (new : CoreView) (after : ℕ) → after ≡ length answers
+  pub clients_read : (id : ℕ) (token : Token) (new : CoreView S) (after : ℕ) → after ≡ length answers
       → AreClients count (after_read id token new count s) (noted ++ record { node = id; token = token; operation = Read; after = after } ∷ []) answers
   clients_read id token new after told_before =
       let one : Asked = record { number = s.next id; token = token; operation = Read; came = count } in
@@ -321,7 +321,7 @@ module _ (count : ℕ) (s : Cores) (noted : List Noted) (answers : List (ℕ × 
       (λ i a. ⊎_elim (λ c. inl (inl c)) (λ c. ⊎_elim (λ d. inl (inr d)) inr (was_or_one id s.reads_at one i a c)))
 
   -- a server ends, and may start again
-  module _ (id : ℕ) (new : Option CoreView) (later : ℕ) (up : count ≤ later) where
+  module _ (id : ℕ) (new : Option (CoreView S)) (later : ℕ) (up : count ≤ later) where
     abbrev gone : List Exchange
     gone = unanswered id later (s.open_at id)
 
@@ -331,7 +331,7 @@ module _ (count : ℕ) (s : Cores) (noted : List Noted) (answers : List (ℕ × 
     abbrev over_now : List Exchange
     over_now = gone ++ gone_reads
 
-    abbrev ended : Cores
+    abbrev ended : Cores S
     ended = after_end id new later s
 
     none_now : those_answered over_now ≡ []
@@ -376,3 +376,20 @@ module _ (count : ℕ) (s : Cores) (noted : List Noted) (answers : List (ℕ × 
       within = h.within;
       since = λ i j row a e p q r l. h.since i j row a e p q (slot_still j e r) l;
     }
+
+-- another core runs, of which clients hear nothing
+pub clients_still : {S : Type 0} (count : ℕ) (s : Cores S) (noted : List Noted) (answers : List (ℕ × Reply)) (cores : ℕ → Option (CoreView S))
+    → AreClients count s noted answers → AreClients count (record s { cores = cores }) noted answers
+clients_still count s noted answers cores h = record {
+  requests = h.requests;
+  each = h.each;
+  numbers = h.numbers;
+  single = h.single;
+  opened = h.opened;
+  over = h.over;
+  answered = h.answered;
+  before = h.before;
+  early = h.early;
+  within = h.within;
+  since = h.since;
+}

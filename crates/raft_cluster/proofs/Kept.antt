@@ -9,22 +9,24 @@ use Rattle.raft_answers.specs.declared.answer.Reply.{Reply}
 use Rattle.raft_answers.specs.declared.request.Proposal.{Proposal}
 use Rattle.raft_answers.specs.Answers.{answer_at, settled_left, settled_replies, waits_upto}
 use Rattle.raft_node.specs.declared.record.Executed.{Executed}
-use Rattle.raft_node.specs.declared.record.Installed.{Installed}
-use Rattle.raft_node.specs.Net.{Records}
-use Rattle.raft_calls.specs.declared.message.Message.{Message}
 use Rattle.raft_state.specs.IdEquality.{log_id_eq}
 use Rattle.raft_store.specs.declared.entry.Entry.{Entry}
-use Rattle.raft_core.specs.declared.output.Output.{Output}
-use Rattle.raft_core.specs.declared.output.Output.TheVariants as outputs
-use Rattle.raft_core.specs.declared.frame.Frame.TheVariants as frames
-use Rattle.raft_core.specs.declared.reads.Reader.{Reader}
-use Rattle.raft_core.specs.Calls.{Receives, Releases}
-use Rattle.raft_core.specs.Laws.{IsNotOk, read_replies_of, replies_of}
-use Rattle.raft_core.specs.Outputs.{executed_outputs, install, reads_out, replies_out, said_outputs, sent}
-use Rattle.raft_core.specs.Reads.{ReadsView, count_over, executed_after, handed_after, read_replies, refused_left, refused_replies, told, with_heard, with_left}
-use Rattle.raft_core.specs.Views.{CoreView}
-use Rattle.raft_core.proofs.ReadsTold.{none_granted, told_by_message, told_by_release}
-use Rattle.raft_core.proofs.Told.{none_read, replies_are, replies_more}
+use Rattle.raft_codec.specs.Codec.{Codec}
+use Rattle.proof_packed.specs.Nodes.{PackedInstalled, PackedMessage, PackedRecords}
+use Rattle.proof_packed.specs.Stores.{Application, Packed}
+use Rattle.raft_packed_wire.specs.declared.packet.SentMessage.{SentMessage}
+use Rattle.raft_packed_wire.specs.Messages.{received}
+use Rattle.proof_requests.specs.raft_core.declared.output.Output.{Output}
+use Rattle.proof_requests.specs.raft_core.declared.output.Output.TheVariants as outputs
+use Rattle.proof_requests.specs.raft_core.declared.frame.Frame.TheVariants as frames
+use Rattle.proof_requests.specs.raft_core.declared.reads.Reader.{Reader}
+use Rattle.proof_requests.specs.raft_core.Calls.{Receives, Releases}
+use Rattle.proof_requests.specs.raft_core.Laws.{IsNotOk, read_replies_of, replies_of}
+use Rattle.proof_requests.specs.raft_core.Outputs.{Sends, executed_outputs, install, reads_out, replies_out, said_outputs, sent}
+use Rattle.proof_requests.specs.raft_core.Reads.{ReadsView, count_over, executed_after, handed_after, read_replies, refused_left, refused_replies, told, with_heard, with_left}
+use Rattle.proof_requests.specs.raft_core.Views.{CoreView}
+use Rattle.proof_requests.proofs.raft_core_proofs.ReadsTold.{none_granted, told_by_message, told_by_release}
+use Rattle.proof_requests.proofs.raft_core_proofs.Told.{none_read, replies_are, replies_more}
 use Rattle.proof_clients.proofs.Sequences.{first_or}
 use Rattle.proof_clients.proofs.Slots.{here, there}
 use Rattle.proof_requests.proofs.Lists.{none_in}
@@ -65,7 +67,7 @@ nothing_kept es (answers.NotLeader leader) never = tt
 nothing_kept es answers.Unknown never = tt
 
 -- of requests none acknowledges anything
-pub quiet_kept : (es : List Entry) (out : List Output) → AreQuiet out → AreKept es (read_replies_of out) → AreKept es (answers_in out)
+pub quiet_kept : {S : Type 0} (es : List Entry) (out : List (Output S)) → AreQuiet out → AreKept es (read_replies_of out) → AreKept es (answers_in out)
 quiet_kept es [] q k = tt
 quiet_kept es (outputs.Send to bytes ∷ out) q k = quiet_kept es out q.1 k
 quiet_kept es (outputs.Append bytes end ∷ out) q k = absurd q.0
@@ -97,21 +99,23 @@ over_kept es (Some index) r h = all (take (count_over index r.rounds) r.readers)
     all (x ∷ xs) = (h, all xs)
 
 -- those that are told when a frame comes
-pub received_kept : (es : List Entry) (core new : CoreView) (out : List Output) (bytes : List ℕ) → IfSome core.executed (λ index. HasEntryAt index es) → Receives bytes core out new → AreKept es (read_replies_of out)
-received_kept es core new out bytes h (frames.Packet p, is, (m, has, t)) =
-    let heard : ReadsView = with_heard m core.reads in
+pub received_kept : {S : Type 0} (app : Application S) (codec : Codec S) (es : List Entry) (core new : CoreView S) (out : List (Output S)) (bytes : List ℕ)
+    → IfSome core.executed (λ index. HasEntryAt index es) → Receives app codec bytes core out new → AreKept es (read_replies_of out)
+received_kept app codec es core new out bytes h (frames.Packet p, is, (m, has, t)) =
+    let heard : ReadsView = with_heard m.message core.reads in
     let mid : ReadsView = refused_left t.answers.gone heard in
-    subst (AreKept es) (sym (told_by_message m core new out t))
+    subst (AreKept es) (sym (told_by_message app codec (received app m) core new out t))
     (kept_more es (refused_replies t.answers.gone heard) (read_replies core.executed mid) (refused_kept es t.answers.gone heard) (over_kept es core.executed mid h))
-received_kept es core new out bytes h (frames.PreVote ask, is, t) = subst (AreKept es) (sym (ap read_replies_of t.leaves ∙ none_granted t.replies)) tt
-received_kept es core new out bytes h (frames.PreVoteReply reply, is, t) = subst (AreKept es) (sym (ap read_replies_of t.leaves)) tt
+received_kept {S} app codec es core new out bytes h (frames.PreVote ask, is, t) = subst (AreKept es) (sym (ap read_replies_of t.leaves ∙ none_granted S t.replies)) tt
+received_kept app codec es core new out bytes h (frames.PreVoteReply reply, is, t) = subst (AreKept es) (sym (ap read_replies_of t.leaves)) tt
 
 -- and when steps come on disk
-pub released_kept : (es : List Entry) (position : ℕ) (core new : CoreView) (out : List Output) (r : Releases position core out new) → IfSome new.executed (λ index. HasEntryAt index es) → AreKept es (read_replies_of out)
-released_kept es position core new out r h =
-    subst (AreKept es) (sym (told_by_release position core new out r))
+pub released_kept : {S : Type 0} (app : Application S) (codec : Codec S) (es : List Entry) (position : ℕ) (core new : CoreView S) (out : List (Output S))
+    (r : Releases app codec position core out new) → IfSome new.executed (λ index. HasEntryAt index es) → AreKept es (read_replies_of out)
+released_kept {S} app codec es position core new out r h =
+    subst (AreKept es) (sym (told_by_release app codec position core new out r))
     (over_kept es (handed_after r.said core.executed) (with_left r.said.answers core.reads)
-    (subst (λ (o : Option ℕ). IfSome o (λ index. HasEntryAt index es)) (ap (λ (v : CoreView). v.executed) r.rest) h))
+    (subst (λ (o : Option ℕ). IfSome o (λ index. HasEntryAt index es)) (ap (λ (v : CoreView S). v.executed) r.rest) h))
 
 -- the last of these that were handed out is there
 last_there : (es : List Entry) (xs : List Executed) (last : Option ℕ) → ((x : Executed) → Contains xs x → Contains es x.entry) → IfSome last (λ index. HasEntryAt index es)
@@ -120,11 +124,11 @@ last_there es [] last f h = h
 last_there es (x ∷ xs) last f h =
     last_there es xs (Some x.entry.log_id.index) (λ y c. f y (there x xs y c)) (record { entry = x.entry; among = f x (here x xs); at = refl })
 
-pub handed_there : (es : List Entry) (said : Records (Unit {0})) (last : Option ℕ) → IfSome last (λ index. HasEntryAt index es)
+pub handed_there : {S : Type 0} (es : List Entry) (said : PackedRecords S) (last : Option ℕ) → IfSome last (λ index. HasEntryAt index es)
     → IfSome (handed_after said last) (λ index. HasEntryAt index (es ++ map (λ x. x.entry) said.executed))
-handed_there es said last h = go said.installed
+handed_there {S} es said last h = go said.installed
   where
-    go : (ys : List Installed) → IfSome (elim ys as (λ _. Option ℕ) [ [] ↦ executed_after said.executed last | y ∷ ys ↦ None ]) (λ index. HasEntryAt index (es ++ map (λ x. x.entry) said.executed))
+    go : (ys : List (PackedInstalled S)) → IfSome (elim ys as (λ _. Option ℕ) [ [] ↦ executed_after said.executed last | y ∷ ys ↦ None ]) (λ index. HasEntryAt index (es ++ map (λ x. x.entry) said.executed))
     go [] =
         last_there (es ++ map (λ x. x.entry) said.executed) said.executed last
         (λ x c. Contains-append_right es (map (λ x. x.entry) said.executed) x.entry (mapped said.executed x c)) (at_left es (map (λ x. x.entry) said.executed) last h)
@@ -153,49 +157,52 @@ settled_kept e es (p ∷ ps) = (
   settled_kept e es ps,
 )
 
-executed_kept : (es : List Entry) (ps : List Proposal) → AreKept es (replies_of (executed_outputs es ps))
-executed_kept [] ps = tt
-executed_kept (e ∷ es) ps =
+executed_kept : (S : Type 0) (es : List Entry) (ps : List Proposal) → AreKept es (replies_of {S = S} (executed_outputs es ps))
+executed_kept S [] ps = tt
+executed_kept S (e ∷ es) ps =
     let now = settled_replies e.log_id ps in
-    let later = executed_outputs es (settled_left e.log_id.index ps) in
-    subst (AreKept (e ∷ es)) (sym (replies_more (replies_out now) later ∙ ap (λ rs. rs ++ replies_of later) (replies_are now)))
+    let later : List (Output S) = executed_outputs es (settled_left e.log_id.index ps) in
+    subst (AreKept (e ∷ es)) (sym (replies_more (replies_out now) later ∙ ap (λ rs. rs ++ replies_of later) (replies_are S now)))
     (kept_more (e ∷ es) now (replies_of later) (settled_kept e es (take_while (waits_upto e.log_id.index) ps))
-    (kept_right (e ∷ []) es (replies_of later) (executed_kept es (settled_left e.log_id.index ps))))
+    (kept_right (e ∷ []) es (replies_of later) (executed_kept S es (settled_left e.log_id.index ps))))
 
-none_sent : (start : ℕ) (ms : List Message) → replies_of (map (sent start) ms) ≡ []
-none_sent start [] = refl
-none_sent start (m ∷ ms) = none_sent start ms
+none_sent : {S : Type 0} (codec : Codec S) (start : ℕ) (ms : List (SentMessage (Packed S))) → replies_of (map (sent codec start) ms) ≡ []
+none_sent codec start [] = refl
+none_sent codec start (m ∷ ms) = none_sent codec start ms
 
-none_install : (xs : List Installed) → replies_of (map install xs) ≡ []
+none_install : {S : Type 0} (xs : List (PackedInstalled S)) → replies_of (map install xs) ≡ []
 none_install [] = refl
 none_install (x ∷ xs) = none_install xs
 
 -- what steps say, and answers to reads
-pub said_kept : (start : ℕ) (ps : List Proposal) (said : Records (Unit {0})) (qs : List Reply) (out : List Output) → out ≡ said_outputs start said ps ++ reads_out qs → AreKept (executed_in out) (replies_of out)
-said_kept start ps said qs out leaves =
+pub said_kept : {S : Type 0} (app : Application S) (codec : Codec S) (start : ℕ) (ps : List Proposal) (said : PackedRecords S) (frames : List (Output S))
+    → Sends app codec start said.bag frames → (qs : List Reply) (out : List (Output S)) → out ≡ said_outputs frames said ps ++ reads_out qs
+    → AreKept (executed_in out) (replies_of out)
+said_kept {S} app codec start ps said frames sends qs out leaves =
     let es = map (λ (x : Executed). x.entry) said.executed in
-    let last = executed_outputs es ps in
-    let said_is : replies_of (said_outputs start said ps) ≡ replies_of last =
-    replies_more (map (sent start) said.bag) (map install said.installed ++ last)
-    ∙ ((λ i. none_sent start said.bag i ++ (replies_more (map install said.installed) last ∙ ap (λ rs. rs ++ replies_of last) (none_install said.installed)) i)) in
+    let last : List (Output S) = executed_outputs es ps in
+    let silent : replies_of frames ≡ [] = ap replies_of sends.leaves ∙ none_sent codec start sends.packets in
+    let said_is : replies_of (said_outputs frames said ps) ≡ replies_of last =
+    replies_more frames (map install said.installed ++ last)
+    ∙ ((λ i. silent i ++ (replies_more (map install said.installed) last ∙ ap (λ rs. rs ++ replies_of last) (none_install said.installed)) i)) in
     let same : replies_of out ≡ replies_of last =
     ap replies_of leaves
-    ∙ (replies_more (said_outputs start said ps) (reads_out qs)
-    ∙ ((λ i. said_is i ++ none_read qs i) ∙ append_nil (replies_of last))) in
-    subst (λ xs. AreKept xs (replies_of out)) (sym (ap executed_in leaves ∙ executed_said start said ps qs))
-    (subst (AreKept es) (sym same) (executed_kept es ps))
+    ∙ (replies_more (said_outputs frames said ps) (reads_out qs)
+    ∙ ((λ i. said_is i ++ none_read S qs i) ∙ append_nil (replies_of last))) in
+    subst (λ xs. AreKept xs (replies_of out)) (sym (ap executed_in leaves ∙ executed_said app codec start said frames sends ps qs))
+    (subst (AreKept es) (sym same) (executed_kept S es ps))
   where
     append_nil : (rs : List Reply) → rs ++ [] ≡ rs
     append_nil [] = refl
     append_nil (r ∷ rs) = ap (λ xs. r ∷ xs) (append_nil rs)
 
 -- what leaves with entries keeps them, and reads those that were told of by then
-pub answers_kept : (es more : List Entry) (out : List Output) → AreInOrder out → AreKept more (replies_of out) → AreKept (es ++ more) (read_replies_of out) → AreKept (es ++ more) (answers_in out)
+pub answers_kept : {S : Type 0} (es more : List Entry) (out : List (Output S)) → AreInOrder out → AreKept more (replies_of out) → AreKept (es ++ more) (read_replies_of out) → AreKept (es ++ more) (answers_in out)
 answers_kept es more out order replies reads =
     subst (AreKept (es ++ more)) (sym order) (kept_more (es ++ more) (replies_of out) (read_replies_of out) (kept_right es more (replies_of out) replies) reads)
 
 -- what leaves keeps what was acknowledged before
-pub keeps : (out : List Output) (told told2 : Told) → entries_told told2 ≡ entries_told told ++ executed_in out → replies_told told2 ≡ replies_told told ++ answers_in out
+pub keeps : {S : Type 0} (out : List (Output S)) (told told2 : Told S) → entries_told told2 ≡ entries_told told ++ executed_in out → replies_told told2 ≡ replies_told told ++ answers_in out
     → AreKept (entries_told told2) (answers_in out) → KeepsAcknowledged told → KeepsAcknowledged told2
 keeps out told told2 executed replies now kept =
     subst (AreKept (entries_told told2)) (sym replies)
@@ -203,9 +210,9 @@ keeps out told told2 executed replies now kept =
     (subst (λ es. AreKept es (replies_told told)) (sym executed) (kept_left (entries_told told) (executed_in out) (replies_told told) kept)) now)
 
 -- what was handed out stays
-pub handed_on : (es more : List Entry) (m : Machine) → HasHanded es m → HasHanded (es ++ more) m
-handed_on es more m h = go m.core h
+pub handed_on : {S : Type 0} (es more : List Entry) (m : Machine S) → HasHanded es m → HasHanded (es ++ more) m
+handed_on {S} es more m h = go m.core h
   where
-    go : (o : Option CoreView) → IfSome o (λ v. IfSome v.executed (λ index. HasEntryAt index es)) → IfSome o (λ v. IfSome v.executed (λ index. HasEntryAt index (es ++ more)))
+    go : (o : Option (CoreView S)) → IfSome o (λ v. IfSome v.executed (λ index. HasEntryAt index es)) → IfSome o (λ v. IfSome v.executed (λ index. HasEntryAt index (es ++ more)))
     go None k = tt
     go (Some v) k = at_left es more v.executed k

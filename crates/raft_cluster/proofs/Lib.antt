@@ -1,4 +1,5 @@
 mod Machines
+mod Servers
 mod Leaving
 mod Order
 mod Cores

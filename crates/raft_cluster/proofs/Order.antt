@@ -6,161 +6,166 @@ use Rattle.std.specs.Option.{option_map, option_to_list}
 use Rattle.raft_answers.specs.declared.answer.Reply.{Reply}
 use Rattle.raft_answers.specs.declared.request.Proposal.{Proposal}
 use Rattle.raft_answers.specs.Answers.{settled_left, settled_replies}
-use Rattle.raft_calls.specs.declared.message.Message.{Message}
-use Rattle.raft_node.specs.declared.record.Installed.{Installed}
 use Rattle.raft_node.specs.declared.record.Executed.{Executed}
-use Rattle.raft_server.specs.declared.batch.Written.{Written}
+use Rattle.raft_codec.specs.Codec.{Codec}
+use Rattle.proof_packed.specs.Nodes.{PackedInstalled, PackedMessage}
+use Rattle.proof_packed.specs.Stores.{Application, Packed}
+use Rattle.raft_packed_wire.specs.declared.packet.SentMessage.{SentMessage}
+use Rattle.raft_packed_wire.specs.Messages.{received}
+use Rattle.proof_requests.specs.raft_packed_server.declared.batch.Written.{Written}
 use Rattle.raft_store.specs.declared.entry.Entry.{Entry}
-use Rattle.raft_core.specs.declared.frame.Frame.{Frame}
-use Rattle.raft_core.specs.declared.frame.Frame.TheVariants as frames
-use Rattle.raft_core.specs.declared.frame.PreVote.{PreVote}
-use Rattle.raft_core.specs.declared.frame.PreVoteReply.{PreVoteReply}
-use Rattle.raft_core.specs.declared.output.Output.{Output}
-use Rattle.raft_core.specs.declared.output.Output.TheVariants as outputs
-use Rattle.raft_core.specs.Calls.{Receives, Releases, TakesFrame, Ticks, Writes, appended}
-use Rattle.raft_core.specs.Frames.{asked, granted}
-use Rattle.raft_core.specs.Laws.{read_replies_of, replies_of}
-use Rattle.raft_core.specs.Outputs.{executed_outputs, install, lost_replies, overdue_replies, reads_out, replies_out, said_outputs, sent}
-use Rattle.raft_core.specs.Reads.{failed_replies, handed_after, read_replies, refused_left, refused_replies, with_heard, with_left}
-use Rattle.raft_core.specs.Views.{CoreView}
+use Rattle.proof_requests.specs.raft_core.declared.frame.Frame.{Frame}
+use Rattle.proof_requests.specs.raft_core.declared.frame.Frame.TheVariants as frames
+use Rattle.proof_requests.specs.raft_core.declared.frame.PreVote.{PreVote}
+use Rattle.proof_requests.specs.raft_core.declared.frame.PreVoteReply.{PreVoteReply}
+use Rattle.proof_requests.specs.raft_core.declared.output.Output.{Output}
+use Rattle.proof_requests.specs.raft_core.declared.output.Output.TheVariants as outputs
+use Rattle.proof_requests.specs.raft_core.Calls.{Receives, Releases, TakesFrame, Ticks, Writes, appended}
+use Rattle.proof_requests.specs.raft_core.Frames.{asked, granted}
+use Rattle.proof_requests.specs.raft_core.Laws.{read_replies_of, replies_of}
+use Rattle.proof_requests.specs.raft_core.Outputs.{executed_outputs, install, lost_replies, overdue_replies, reads_out, replies_out, said_outputs, sent}
+use Rattle.proof_requests.specs.raft_core.Reads.{failed_replies, handed_after, read_replies, refused_left, refused_replies, with_heard, with_left}
+use Rattle.proof_requests.specs.raft_core.Views.{CoreView}
 use Rattle.proof_requests.specs.Actions.{Initializes}
 use Rattle.raft_cluster.specs.Outputs.{answers_in}
 
--- no answer to a read; none to a request
-abbrev IsNoRead : Output → Type 0
-IsNoRead (outputs.Read r) = ⊥
-IsNoRead _ = Unit {0}
+module _ {S : Type 0} where
+  -- no answer to a read; none to a request
+  abbrev IsNoRead : Output S → Type 0
+  IsNoRead (outputs.Read r) = ⊥
+  IsNoRead _ = Unit {0}
 
-abbrev IsNoReply : Output → Type 0
-IsNoReply (outputs.Reply r) = ⊥
-IsNoReply _ = Unit {0}
+  abbrev IsNoReply : Output S → Type 0
+  IsNoReply (outputs.Reply r) = ⊥
+  IsNoReply _ = Unit {0}
 
-abbrev NoReads : List Output → Type 0
-NoReads out = AllByRecursion IsNoRead out
+  abbrev NoReads : List (Output S) → Type 0
+  NoReads out = AllByRecursion IsNoRead out
 
-abbrev NoReplies : List Output → Type 0
-NoReplies out = AllByRecursion IsNoReply out
+  abbrev NoReplies : List (Output S) → Type 0
+  NoReplies out = AllByRecursion IsNoReply out
 
--- requests first
-abbrev pub AreInOrder : List Output → Type 0
-AreInOrder out = answers_in out ≡ replies_of out ++ read_replies_of out
+  -- requests first
+  abbrev pub AreInOrder : List (Output S) → Type 0
+  AreInOrder out = answers_in out ≡ replies_of out ++ read_replies_of out
 
-none_replied : (out : List Output) → NoReplies out → replies_of out ≡ []
-none_replied [] h = refl
-none_replied (outputs.Reply r ∷ out) h = absurd h.0
-none_replied (outputs.Read r ∷ out) h = none_replied out h.1
-none_replied (outputs.Send to bytes ∷ out) h = none_replied out h.1
-none_replied (outputs.Append bytes end ∷ out) h = none_replied out h.1
-none_replied (outputs.Install entries ∷ out) h = none_replied out h.1
-none_replied (outputs.Execute entry ∷ out) h = none_replied out h.1
+  none_replied : (out : List (Output S)) → NoReplies out → replies_of out ≡ []
+  none_replied [] h = refl
+  none_replied (outputs.Reply r ∷ out) h = absurd h.0
+  none_replied (outputs.Read r ∷ out) h = none_replied out h.1
+  none_replied (outputs.Send to bytes ∷ out) h = none_replied out h.1
+  none_replied (outputs.Append bytes end ∷ out) h = none_replied out h.1
+  none_replied (outputs.Install p ∷ out) h = none_replied out h.1
+  none_replied (outputs.Execute entry ∷ out) h = none_replied out h.1
 
-reads_alone : (out : List Output) → NoReplies out → answers_in out ≡ read_replies_of out
-reads_alone [] h = refl
-reads_alone (outputs.Reply r ∷ out) h = absurd h.0
-reads_alone (outputs.Read r ∷ out) h = ap (λ rs. r ∷ rs) (reads_alone out h.1)
-reads_alone (outputs.Send to bytes ∷ out) h = reads_alone out h.1
-reads_alone (outputs.Append bytes end ∷ out) h = reads_alone out h.1
-reads_alone (outputs.Install entries ∷ out) h = reads_alone out h.1
-reads_alone (outputs.Execute entry ∷ out) h = reads_alone out h.1
+  reads_alone : (out : List (Output S)) → NoReplies out → answers_in out ≡ read_replies_of out
+  reads_alone [] h = refl
+  reads_alone (outputs.Reply r ∷ out) h = absurd h.0
+  reads_alone (outputs.Read r ∷ out) h = ap (λ rs. r ∷ rs) (reads_alone out h.1)
+  reads_alone (outputs.Send to bytes ∷ out) h = reads_alone out h.1
+  reads_alone (outputs.Append bytes end ∷ out) h = reads_alone out h.1
+  reads_alone (outputs.Install p ∷ out) h = reads_alone out h.1
+  reads_alone (outputs.Execute entry ∷ out) h = reads_alone out h.1
 
-in_order : (a b : List Output) → NoReads a → NoReplies b → AreInOrder (a ++ b)
-in_order [] b h k = reads_alone b k ∙ ap (λ rs. rs ++ read_replies_of b) (sym (none_replied b k))
-in_order (outputs.Read r ∷ a) b h k = absurd h.0
-in_order (outputs.Reply r ∷ a) b h k = ap (λ rs. r ∷ rs) (in_order a b h.1 k)
-in_order (outputs.Send to bytes ∷ a) b h k = in_order a b h.1 k
-in_order (outputs.Append bytes end ∷ a) b h k = in_order a b h.1 k
-in_order (outputs.Install entries ∷ a) b h k = in_order a b h.1 k
-in_order (outputs.Execute entry ∷ a) b h k = in_order a b h.1 k
+  in_order : (a b : List (Output S)) → NoReads a → NoReplies b → AreInOrder (a ++ b)
+  in_order [] b h k = reads_alone b k ∙ ap (λ rs. rs ++ read_replies_of b) (sym (none_replied b k))
+  in_order (outputs.Read r ∷ a) b h k = absurd h.0
+  in_order (outputs.Reply r ∷ a) b h k = ap (λ rs. r ∷ rs) (in_order a b h.1 k)
+  in_order (outputs.Send to bytes ∷ a) b h k = in_order a b h.1 k
+  in_order (outputs.Append bytes end ∷ a) b h k = in_order a b h.1 k
+  in_order (outputs.Install p ∷ a) b h k = in_order a b h.1 k
+  in_order (outputs.Execute entry ∷ a) b h k = in_order a b h.1 k
 
--- ---- what leaves
+  both_no_reads : (a b : List (Output S)) → NoReads a → NoReads b → NoReads (a ++ b)
+  both_no_reads [] b h k = k
+  both_no_reads (x ∷ a) b h k = (h.0, both_no_reads a b h.1 k)
 
-both_no_reads : (a b : List Output) → NoReads a → NoReads b → NoReads (a ++ b)
-both_no_reads [] b h k = k
-both_no_reads (x ∷ a) b h k = (h.0, both_no_reads a b h.1 k)
+  both_no_replies : (a b : List (Output S)) → NoReplies a → NoReplies b → NoReplies (a ++ b)
+  both_no_replies [] b h k = k
+  both_no_replies (x ∷ a) b h k = (h.0, both_no_replies a b h.1 k)
 
-both_no_replies : (a b : List Output) → NoReplies a → NoReplies b → NoReplies (a ++ b)
-both_no_replies [] b h k = k
-both_no_replies (x ∷ a) b h k = (h.0, both_no_replies a b h.1 k)
+  sent_no_reads : (codec : Codec S) (start : ℕ) (ms : List (SentMessage (Packed S))) → NoReads (map (sent codec start) ms)
+  sent_no_reads codec start [] = tt
+  sent_no_reads codec start (m ∷ ms) = (tt, sent_no_reads codec start ms)
 
-replies_no_reads : (rs : List Reply) → NoReads (replies_out rs)
-replies_no_reads [] = tt
-replies_no_reads (r ∷ rs) = (tt, replies_no_reads rs)
+  install_no_reads : (xs : List (PackedInstalled S)) → NoReads (map install xs)
+  install_no_reads [] = tt
+  install_no_reads (x ∷ xs) = (tt, install_no_reads xs)
 
-reads_no_replies : (rs : List Reply) → NoReplies (reads_out rs)
-reads_no_replies [] = tt
-reads_no_replies (r ∷ rs) = (tt, reads_no_replies rs)
+-- outputs that have no state of the machine
+module _ (S : Type 0) where
+  replies_no_reads : (rs : List Reply) → NoReads {S = S} (replies_out rs)
+  replies_no_reads [] = tt
+  replies_no_reads (r ∷ rs) = (tt, replies_no_reads rs)
 
-asks_no_reads : (asks : List PreVote) → NoReads (map asked asks)
-asks_no_reads [] = tt
-asks_no_reads (a ∷ asks) = (tt, asks_no_reads asks)
+  reads_no_replies : (rs : List Reply) → NoReplies {S = S} (reads_out rs)
+  reads_no_replies [] = tt
+  reads_no_replies (r ∷ rs) = (tt, reads_no_replies rs)
 
-granted_no_reads : (r : Option PreVoteReply) → NoReads (option_to_list (option_map granted r))
-granted_no_reads None = tt
-granted_no_reads (Some r) = (tt, tt)
+  asks_no_reads : (asks : List PreVote) → NoReads {S = S} (map asked asks)
+  asks_no_reads [] = tt
+  asks_no_reads (a ∷ asks) = (tt, asks_no_reads asks)
 
-appended_no_replies : (w : Option Written) → NoReplies (appended w)
-appended_no_replies None = tt
-appended_no_replies (Some w) = (tt, tt)
+  granted_no_reads : (r : Option PreVoteReply) → NoReads {S = S} (option_to_list (option_map granted r))
+  granted_no_reads None = tt
+  granted_no_reads (Some r) = (tt, tt)
 
-sent_no_reads : (start : ℕ) (ms : List Message) → NoReads (map (sent start) ms)
-sent_no_reads start [] = tt
-sent_no_reads start (m ∷ ms) = (tt, sent_no_reads start ms)
+  appended_no_replies : (w : Option Written) → NoReplies {S = S} (appended w)
+  appended_no_replies None = tt
+  appended_no_replies (Some w) = (tt, tt)
 
-install_no_reads : (xs : List Installed) → NoReads (map install xs)
-install_no_reads [] = tt
-install_no_reads (x ∷ xs) = (tt, install_no_reads xs)
-
-executed_no_reads : (es : List Entry) (ps : List Proposal) → NoReads (executed_outputs es ps)
-executed_no_reads [] ps = tt
-executed_no_reads (e ∷ es) ps = (
-  tt,
-  both_no_reads (replies_out (settled_replies e.log_id ps)) (executed_outputs es (settled_left e.log_id.index ps)) (replies_no_reads (settled_replies e.log_id ps)) (executed_no_reads es (settled_left e.log_id.index ps)),
-)
+  executed_no_reads : (es : List Entry) (ps : List Proposal) → NoReads {S = S} (executed_outputs es ps)
+  executed_no_reads [] ps = tt
+  executed_no_reads (e ∷ es) ps = (
+    tt,
+    both_no_reads {S = S} (replies_out (settled_replies e.log_id ps)) (executed_outputs es (settled_left e.log_id.index ps)) (replies_no_reads (settled_replies e.log_id ps)) (executed_no_reads es (settled_left e.log_id.index ps)),
+  )
 
 -- ---- each call
 
-module _ (core new : CoreView) (out : List Output) where
-  pub order_initialized : Initializes core out new → AreInOrder out
+module _ {S : Type 0} (app : Application S) (codec : Codec S) (core new : CoreView S) (out : List (Output S)) where
+  pub order_initialized : Initializes app core out new → AreInOrder out
   order_initialized i = subst AreInOrder (sym i.0) refl
 
-  pub order_ticked : Ticks core out new → AreInOrder out
+  pub order_ticked : Ticks app core out new → AreInOrder out
   order_ticked t =
       let rs : List Reply = overdue_replies t.answers.lost t.upto core.requests in
       let qs : List Reply = refused_replies t.answers.gone core.reads ++ failed_replies t.upto (refused_left t.answers.gone core.reads) in
       subst AreInOrder (append_assoc (map asked t.asks) (replies_out rs) (reads_out qs) ∙ sym t.answers.leaves)
-      (in_order (map asked t.asks ++ replies_out rs) (reads_out qs) (both_no_reads (map asked t.asks) (replies_out rs) (asks_no_reads t.asks) (replies_no_reads rs)) (reads_no_replies qs))
+      (in_order {S = S} (map asked t.asks ++ replies_out rs) (reads_out qs) (both_no_reads {S = S} (map asked t.asks) (replies_out rs) (asks_no_reads S t.asks) (replies_no_reads S rs)) (reads_no_replies S qs))
 
-  order_framed : (frame : Frame) → TakesFrame frame core out new → AreInOrder out
+  order_framed : (frame : Frame S) → TakesFrame app frame core out new → AreInOrder out
   order_framed (frames.Packet p) (m, is, t) =
       let rs : List Reply = lost_replies t.answers.lost core.requests in
-      let mid = refused_left t.answers.gone (with_heard m core.reads) in
-      let qs : List Reply = refused_replies t.answers.gone (with_heard m core.reads) ++ read_replies core.executed mid in
-      subst AreInOrder (sym t.answers.leaves) (in_order (replies_out rs) (reads_out qs) (replies_no_reads rs) (reads_no_replies qs))
+      let mid = refused_left t.answers.gone (with_heard m.message core.reads) in
+      let qs : List Reply = refused_replies t.answers.gone (with_heard m.message core.reads) ++ read_replies core.executed mid in
+      subst AreInOrder (sym t.answers.leaves) (in_order {S = S} (replies_out rs) (reads_out qs) (replies_no_reads S rs) (reads_no_replies S qs))
   order_framed (frames.PreVote ask) t =
-      subst AreInOrder (append_none (option_to_list (option_map granted t.replies)) ∙ sym t.leaves) (in_order (option_to_list (option_map granted t.replies)) [] (granted_no_reads t.replies) tt)
+      subst AreInOrder (append_none (option_to_list (option_map granted t.replies)) ∙ sym t.leaves) (in_order {S = S} (option_to_list (option_map granted t.replies)) [] (granted_no_reads S t.replies) tt)
     where
-      append_none : (xs : List Output) → xs ++ [] ≡ xs
+      append_none : (xs : List (Output S)) → xs ++ [] ≡ xs
       append_none [] = refl
       append_none (x ∷ xs) = ap (λ ys. x ∷ ys) (append_none xs)
   order_framed (frames.PreVoteReply reply) t = subst AreInOrder (sym t.leaves) refl
 
-  pub order_received : (bytes : List ℕ) → Receives bytes core out new → AreInOrder out
+  pub order_received : (bytes : List ℕ) → Receives app codec bytes core out new → AreInOrder out
   order_received bytes (frame, has, t) = order_framed frame t
 
-  pub order_written : Writes core out new → AreInOrder out
+  pub order_written : Writes app codec core out new → AreInOrder out
   order_written (inl none) = subst AreInOrder (sym none.0) refl
   order_written (inr w) =
       subst AreInOrder (sym w.leaves)
-      (in_order (replies_out w.replies) (reads_out w.refused ++ appended w.written) (replies_no_reads w.replies)
-      (both_no_replies (reads_out w.refused) (appended w.written) (reads_no_replies w.refused) (appended_no_replies w.written)))
+      (in_order {S = S} (replies_out w.replies) (reads_out w.refused ++ appended w.written) (replies_no_reads S w.replies)
+      (both_no_replies {S = S} (reads_out w.refused) (appended w.written) (reads_no_replies S w.refused) (appended_no_replies S w.written)))
 
-  pub order_released : (position : ℕ) → Releases position core out new → AreInOrder out
+  pub order_released : (position : ℕ) → Releases app codec position core out new → AreInOrder out
   order_released position r =
       let es : List Entry = map (λ (x : Executed). x.entry) r.said.executed in
       let ps : List Proposal = core.requests.proposed in
       let qs : List Reply = read_replies (handed_after r.said core.executed) (with_left r.said.answers core.reads) in
       subst AreInOrder (sym r.leaves)
-      (in_order (said_outputs core.start r.said ps) (reads_out qs)
-      (both_no_reads (map (sent core.start) r.said.bag) (map install r.said.installed ++ executed_outputs es ps) (sent_no_reads core.start r.said.bag)
-      (both_no_reads (map install r.said.installed) (executed_outputs es ps) (install_no_reads r.said.installed) (executed_no_reads es ps)))
-      (reads_no_replies qs))
+      (in_order {S = S} (said_outputs r.frames r.said ps) (reads_out qs)
+      (both_no_reads r.frames (map install r.said.installed ++ executed_outputs es ps)
+      (subst NoReads (sym r.sends.leaves) (sent_no_reads codec core.start r.sends.packets))
+      (both_no_reads {S = S} (map install r.said.installed) (executed_outputs es ps) (install_no_reads r.said.installed) (executed_no_reads S es ps)))
+      (reads_no_replies S qs))

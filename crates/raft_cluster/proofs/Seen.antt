@@ -14,11 +14,13 @@ use Rattle.raft_answers.specs.declared.answer.Answer.TheVariants.{Ok}
 use Rattle.raft_answers.specs.declared.answer.Reply.{Reply}
 use Rattle.raft_answers.specs.declared.request.Operation.{Operation as Asks}
 use Rattle.raft_answers.specs.declared.request.Operation.TheVariants.{Read, Write}
+use Rattle.raft_codec.specs.Codec.{Codec}
+use Rattle.proof_packed.specs.Stores.{Application}
 use Rattle.proof_clients.specs.Objects.{Object, Operation, Query, Update}
 use Rattle.proof_clients.proofs.Sequences.{element, first_or}
 use Rattle.proof_clients.proofs.Slots.{here, slot_at, slot_below, there}
 use Rattle.proof_servers.specs.Servers.{Action}
-use Rattle.proof_answers.specs.Answers.{Proposed}
+use Rattle.proof_requests.specs.proof_answers.Answers.{Proposed}
 use Rattle.proof_requests.specs.Answered.{entries_left}
 use Rattle.proof_requests.specs.Clients.{AreBeside, AreNames, AreOver, AreTwoRequests, Cores, Exchange, HasWrite as HasUpdate, IsNo, IsOver, IsToldHistory, IsWritten, WasDone, WasTold, WasWritten}
 use Rattle.proof_requests.specs.Requests.{AllPairs, AreOfTwo, AreSingle, Asked, IsOwn, Placed, Wrote}
@@ -122,8 +124,8 @@ single_place (x ∷ ws) h (suc k) zero v w by p q r t =
     absurd (element (AreOfTwo x) ws v h.0 (contains_slot ws k v p) by (ap (λ (y : Placed). y.by) z ∙ t) r)
 single_place (x ∷ ws) h (suc k) (suc l) v w by p q r t = ap suc (single_place ws h.1 k l v w by p q r t)
 
-module _ (given : Given) (wf : IsWellFormed given) (actions : List Action) (placed : List Placed) (s : Cores) (beside : AreBeside given actions placed s) (told : Told) (count : ℕ)
-    (h : AreClients count s told.asked.items (answers_told told)) where
+module _ {A : Type 0} (app : Application A) (codec : Codec A) (given : Given) (wf : IsWellFormed given) (actions : List Action) (placed : List Placed)
+    (s : Cores A) (beside : AreBeside app codec given actions placed s) (told : Told A) (count : ℕ) (h : AreClients count s told.asked.items (answers_told told)) where
   abbrev noted : List Noted
   noted = told.asked.items
 
@@ -445,7 +447,7 @@ module _ (given : Given) (wf : IsWellFormed given) (actions : List Action) (plac
 
     pub sees_one : SeesOne m told
     sees_one =
-        let z = cores_see_one m given wf actions placed s beside name named in
+        let z = cores_see_one app codec m given wf actions placed s beside name named in
         record {
           moments = moments;
           updates = z.0;

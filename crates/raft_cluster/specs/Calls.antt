@@ -1,14 +1,17 @@
 -- What a machine's calls do: what its server does, and what becomes of its disk.
 use Rattle.std.specs.Prelude.{ℕ, ◌≡◌, ◌⊎◌, Bool, true, false, List, [], Option, None, Some, IfSome, take, if◌then◌else◌}
 use Rattle.raft_node.specs.declared.given.Given.{Given}
+use Rattle.raft_codec.specs.Codec.{Codec}
 use Rattle.raft_answers.specs.declared.request.Operation.{Operation}
 use Rattle.raft_answers.specs.declared.request.Token.{Token}
-use Rattle.raft_core.specs.declared.driver.OpenedCore.{OpenedCore}
-use Rattle.raft_core.specs.declared.error.FrameError.{FrameError}
-use Rattle.raft_core.specs.declared.error.FrameError.TheVariants.{Core}
-use Rattle.raft_core.specs.declared.output.Output.{Output}
-use Rattle.raft_core.specs.Calls.{Admits, AdmitsRead, Begins, Releases, Writes}
-use Rattle.raft_core.specs.Views.{CoreView}
+use Rattle.proof_packed.specs.Stores.{Application}
+use Rattle.proof_requests.specs.raft_packed_server.declared.batch.Written.{Written}
+use Rattle.proof_requests.specs.raft_core.declared.driver.OpenedCore.{OpenedCore}
+use Rattle.proof_requests.specs.raft_core.declared.error.FrameError.{FrameError}
+use Rattle.proof_requests.specs.raft_core.declared.error.FrameError.TheVariants.{Core}
+use Rattle.proof_requests.specs.raft_core.declared.output.Output.{Output}
+use Rattle.proof_requests.specs.raft_core.Calls.{Admits, AdmitsRead, Begins, BeginsNewLog, Releases, Writes}
+use Rattle.proof_requests.specs.raft_core.Views.{CoreView}
 use Rattle.raft_cluster.specs.declared.comes.Comes.{Comes}
 use Rattle.raft_cluster.specs.declared.comes.Comes.TheVariants.{Done as IsDone, NotOpen, NotTaken, Opened}
 use Rattle.raft_cluster.specs.declared.machine.Handed.{Handed}
@@ -18,64 +21,79 @@ use Rattle.raft_cluster.specs.Disks.{flushed, torn}
 use Rattle.raft_cluster.specs.Outputs.{handed_in, is_packet, others_in}
 use Rattle.raft_cluster.specs.Servers.{log_on}
 
--- Calls
+module _ {S : Type 0} where
+  -- Calls
 
--- nothing happens: the server isn't open, or refuses
-abbrev pub Rests : Machine → List Output → Machine → Type 0
-Rests old out new = (out ≡ []) × (new ≡ old)
+  -- nothing happens: the server isn't open, or refuses
+  abbrev pub Rests : Machine S → List (Output S) → Machine S → Type 0
+  Rests old out new = (out ≡ []) × (new ≡ old)
 
--- the server stops: of what it handed out so many bytes are on disk
-pub record Stops (old : Machine) (out : List Output) (new : Machine) : Type 0 where
-  pub none : out ≡ []
-  pub id : new.id ≡ old.id
-  pub closed : new.core ≡ None
-  pub written : new.written ≡ None
-  pub bytes : ℕ
-  pub disk : new.disk.items ≡ torn bytes old
+  -- the server stops: of what it handed out so many bytes are on disk
+  pub record Stops (old : Machine S) (out : List (Output S)) (new : Machine S) : Type 0 where
+    pub none : out ≡ []
+    pub id : new.id ≡ old.id
+    pub closed : new.core ≡ None
+    pub written : new.written ≡ None
+    pub bytes : ℕ
+    pub disk : new.disk.items ≡ torn bytes old
 
--- a call of a server that does this, if it is open and doesn't stop
-abbrev pub Calls : (Machine → List Output → Machine → Type 0) → Machine → List Output → Machine → Type 0
-Calls Does old out new = Rests old out new ⊎ (Stops old out new ⊎ Does old out new)
+  -- a call of a server that does this, if it is open and doesn't stop
+  abbrev pub Calls : (Machine S → List (Output S) → Machine S → Type 0) → Machine S → List (Output S) → Machine S → Type 0
+  Calls Does old out new = Rests old out new ⊎ (Stops old out new ⊎ Does old out new)
 
--- nothing else
-abbrev pub Never : Machine → List Output → Machine → Type 0
-Never old out new = ⊥
+  -- nothing else
+  abbrev pub Never : Machine S → List (Output S) → Machine S → Type 0
+  Never old out new = ⊥
 
--- the server does this (`raft_core`), and nothing else happens
-pub record ByCore (Does : CoreView → List Output → CoreView → Type 0) (old : Machine) (out : List Output) (new : Machine) : Type 0 where
-  pub core : CoreView
+  -- the server does this (`raft_core`), and nothing else happens
+  pub record ByCore (Does : CoreView S → List (Output S) → CoreView S → Type 0) (old : Machine S) (out : List (Output S)) (new : Machine S)
+      : Type 0 where
+    pub core : CoreView S
+    pub is_open : old.core ≡ Some core
+    pub next : CoreView S
+    pub does : Does core out next
+    pub becomes : new ≡ record old { core = Some next }
+
+  -- bytes that were handed out are on their way to the disk
+  abbrev pub with_handed : Option Handed → Machine S → Machine S
+  with_handed None m = m
+  with_handed (Some handed) m = record m { written = Some handed }
+
+-- a server writes: the bytes for its log's end are on their way, and all else leaves
+pub record ByWrite {S : Type 0} (app : Application S) (codec : Codec S) (old : Machine S) (out : List (Output S)) (new : Machine S) : Type 0 where
+  pub core : CoreView S
   pub is_open : old.core ≡ Some core
-  pub next : CoreView
-  pub does : Does core out next
-  pub becomes : new ≡ record old { core = Some next }
-
--- bytes that were handed out are on their way to the disk
-abbrev pub with_handed : Option Handed → Machine → Machine
-with_handed None m = m
-with_handed (Some handed) m = record m { written = Some handed }
-
--- the server writes: the bytes for its log's end are on their way, and all else leaves
-pub record ByWrite (old : Machine) (out : List Output) (new : Machine) : Type 0 where
-  pub core : CoreView
-  pub is_open : old.core ≡ Some core
-  pub next : CoreView
-  pub said : List Output
-  pub does : Writes core said next
+  pub next : CoreView S
+  pub said : List (Output S)
+  pub does : Writes app codec core said next
   pub leaves : out ≡ others_in said
   pub becomes : new ≡ with_handed (handed_in said) (record old { core = Some next })
 
 -- the bytes that were handed out, if any, are on disk, and the server hears up to where the log is
-pub record ByFlush (old : Machine) (out : List Output) (new : Machine) : Type 0 where
-  pub core : CoreView
+pub record ByFlush {S : Type 0} (app : Application S) (codec : Codec S) (old : Machine S) (out : List (Output S)) (new : Machine S) : Type 0 where
+  pub core : CoreView S
   pub is_open : old.core ≡ Some core
-  pub next : CoreView
+  pub next : CoreView S
   pub position : ℕ
   pub end : IfSome old.written (λ handed. position ≡ handed.end)
-  pub does : Releases position core out next
+  pub does : Releases app codec position core out next
   pub id : new.id ≡ old.id
   pub now : new.core ≡ Some next
   pub written : new.written ≡ None
   pub disk : new.disk.items ≡ flushed old
+
+-- a server begins a new log, whose bytes take the old one's place on disk, all at once
+pub record ByNewLog {S : Type 0} (codec : Codec S) (old : Machine S) (out : List (Output S)) (new : Machine S) : Type 0 where
+  pub none : out ≡ []
+  pub core : CoreView S
+  pub is_open : old.core ≡ Some core
+  pub next : CoreView S
+  pub log : Written
+  pub does : BeginsNewLog codec (log_on old) core log next
+  pub id : new.id ≡ old.id
+  pub now : new.core ≡ Some next
+  pub written : new.written ≡ old.written
+  pub disk : new.disk.items ≡ log.bytes.items
 
 -- Frames
 
@@ -86,7 +104,7 @@ is_refused NotOpen = true
 is_refused _ = false
 
 -- the server has stopped on a frame, or does nothing
-abbrev pub Refuses : FrameError → Machine → Done → Machine → Type 0
+abbrev pub Refuses : {S : Type 0} → FrameError → Machine S → Done S → Machine S → Type 0
 Refuses (Core e) old done new = (new ≡ record old { core = None; written = None }) × (done.outputs.items ≡ [])
 Refuses _ old done new = (new ≡ old) × (done.outputs.items ≡ [])
 
@@ -101,46 +119,48 @@ abbrev pub is_done : Comes → Bool
 is_done IsDone = true
 is_done _ = false
 
--- a request is taken, and waits behind the others
-pub record ByRequest (token : Token) (operation : Operation) (old new : Machine) : Type 0 where
-  pub core : CoreView
-  pub is_open : old.core ≡ Some core
-  pub next : CoreView
-  pub admits : Admits token operation core next
-  pub becomes : new ≡ record old { core = Some next }
+module _ {S : Type 0} where
+  -- a request is taken, and waits behind the others
+  pub record ByRequest (token : Token) (operation : Operation) (old new : Machine S) : Type 0 where
+    pub core : CoreView S
+    pub is_open : old.core ≡ Some core
+    pub next : CoreView S
+    pub admits : Admits token operation core next
+    pub becomes : new ≡ record old { core = Some next }
 
-abbrev pub RequestsIf : Bool → Token → Operation → Machine → Machine → Type 0
-RequestsIf true token operation old new = ByRequest token operation old new
-RequestsIf false token operation old new = new ≡ old
+  abbrev pub RequestsIf : Bool → Token → Operation → Machine S → Machine S → Type 0
+  RequestsIf true token operation old new = ByRequest token operation old new
+  RequestsIf false token operation old new = new ≡ old
 
--- a read that needs no entry is
-pub record ByRead (token : Token) (old new : Machine) : Type 0 where
-  pub core : CoreView
-  pub is_open : old.core ≡ Some core
-  pub next : CoreView
-  pub admits : AdmitsRead token core next
-  pub becomes : new ≡ record old { core = Some next }
+  -- a read that needs no entry is
+  pub record ByRead (token : Token) (old new : Machine S) : Type 0 where
+    pub core : CoreView S
+    pub is_open : old.core ≡ Some core
+    pub next : CoreView S
+    pub admits : AdmitsRead token core next
+    pub becomes : new ≡ record old { core = Some next }
 
-abbrev pub ReadsIf : Bool → Token → Machine → Machine → Type 0
-ReadsIf true token old new = ByRead token old new
-ReadsIf false token old new = new ≡ old
+  abbrev pub ReadsIf : Bool → Token → Machine S → Machine S → Type 0
+  ReadsIf true token old new = ByRead token old new
+  ReadsIf false token old new = new ≡ old
 
 -- Starts
-
--- the server opens on what is on disk, and cuts off what stands behind its log
-pub record ByStart (given : Given) (old new : Machine) : Type 0 where
-  pub was_closed : old.core ≡ None
-  pub opened : OpenedCore
-  pub begins : Begins given (log_on old) old.disk.items opened
-  pub id : new.id ≡ old.id
-  pub now : new.core ≡ Some opened.core
-  pub written : new.written ≡ old.written
-  pub disk : new.disk.items ≡ take opened.end old.disk.items
 
 abbrev pub is_opened : Comes → Bool
 is_opened (Opened end len) = true
 is_opened _ = false
 
-abbrev pub StartsIf : Bool → Given → Machine → Machine → Type 0
-StartsIf true given old new = ByStart given old new
-StartsIf false given old new = new ≡ old
+module _ {S : Type 0} (app : Application S) (codec : Codec S) where
+  -- the server opens on what is on disk, and cuts off what stands behind its log
+  pub record ByStart (given : Given) (old new : Machine S) : Type 0 where
+    pub was_closed : old.core ≡ None
+    pub opened : OpenedCore S
+    pub begins : Begins app codec given (log_on old) old.disk.items opened
+    pub id : new.id ≡ old.id
+    pub now : new.core ≡ Some opened.core
+    pub written : new.written ≡ old.written
+    pub disk : new.disk.items ≡ take opened.end old.disk.items
+
+  abbrev pub StartsIf : Bool → Given → Machine S → Machine S → Type 0
+  StartsIf true given old new = ByStart given old new
+  StartsIf false given old new = new ≡ old

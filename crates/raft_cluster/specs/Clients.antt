@@ -9,7 +9,7 @@ use Rattle.raft_cluster.specs.declared.told.Asked.{Asked as Noted}
 use Rattle.raft_cluster.specs.declared.told.Told.{Told}
 
 -- the answers, each with its server
-abbrev pub answers_told : Told → List (ℕ × Reply)
+abbrev pub answers_told : {S : Type 0} → Told S → List (ℕ × Reply)
 answers_told t = map (λ x. (x.node, x.reply)) t.answered.items
 
 -- the exchanges that have an answer, in order
@@ -43,7 +43,7 @@ pub record HasPlace (noted : List Noted) (requests : List Asked) (id : ℕ) (a :
 -- What clients asked and were told is what they asked these servers, and were told by them, after so many actions: each request that
 -- is open or over was noted, once, and answers were told in the order in which they left. An answer that was told before a request
 -- came had left by then.
-pub record AreClients (count : ℕ) (s : Cores) (noted : List Noted) (answers : List (ℕ × Reply)) : Type 0 where
+pub record AreClients {S : Type 0} (count : ℕ) (s : Cores S) (noted : List Noted) (answers : List (ℕ × Reply)) : Type 0 where
   pub requests : List Asked
   pub each : AllPairs IsNoted noted requests
   pub numbers : (i : ℕ) (row : Noted) (a : Asked) → slice_get noted i ≡ Some row → slice_get requests i ≡ Some a → a.number < s.next row.node

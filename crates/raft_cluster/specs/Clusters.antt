@@ -7,15 +7,16 @@ use Rattle.raft_answers.specs.declared.answer.Answer.TheVariants as answers
 use Rattle.raft_answers.specs.declared.answer.Reply.{Reply}
 use Rattle.raft_answers.specs.declared.request.Operation.{Operation}
 use Rattle.raft_answers.specs.declared.request.Token.{Token}
-use Rattle.raft_calls.specs.declared.message.Message.{Message}
 use Rattle.raft_node.specs.declared.record.Executed.{Executed}
-use Rattle.raft_node.specs.declared.record.Installed.{Installed}
-use Rattle.raft_node.specs.Net.{Records}
 use Rattle.raft_node.specs.WellFormed.{IsWellFormed}
 use Rattle.raft_store.specs.declared.entry.Entry.{Entry}
+use Rattle.raft_codec.specs.Codec.{Codec}
 use Rattle.proof_servers.specs.Servers.{Action, after_actions, new_cluster}
 use Rattle.proof_servers.specs.Servers.{Cluster as ModelCluster}
-use Rattle.raft_core.specs.declared.output.Output.{Output}
+use Rattle.proof_packed.specs.Nodes.{PackedMessage, PackedRecords}
+use Rattle.proof_packed.specs.Stores.{Application, Packed}
+use Rattle.proof_requests.specs.proof_packed_servers.Servers.{PackedCluster, cluster_packed}
+use Rattle.proof_requests.specs.raft_core.declared.output.Output.{Output}
 use Rattle.raft_cluster.specs.declared.cluster.Cluster.{Cluster}
 use Rattle.raft_cluster.specs.declared.machine.Machine.{Machine}
 use Rattle.raft_cluster.specs.declared.network.Network.{Network}
@@ -31,14 +32,14 @@ use Rattle.raft_cluster.specs.Outputs.{IsFrameOf, IsQuestion, answers_in, execut
 use Rattle.raft_cluster.specs.Servers.{IsServer}
 
 -- the place of the machine with an id
-unfoldable pub place_of : List Machine → ℕ → Option ℕ
+unfoldable pub place_of : {S : Type 0} → List (Machine S) → ℕ → Option ℕ
 place_of machines id = position (λ m. nat_eq m.id id) machines
 
 -- machines that were made, for each of these ids one: each is closed, and has nothing on disk
-abbrev pub IsNew : Machine → Type 0
+abbrev pub IsNew : {S : Type 0} → Machine S → Type 0
 IsNew m = (m.core ≡ None) × (m.written ≡ None) × (m.disk.items ≡ [])
 
-pub record AreNew (ids : List ℕ) (machines : List Machine) : Type 0 where
+pub record AreNew {S : Type 0} (ids : List ℕ) (machines : List (Machine S)) : Type 0 where
   pub same : map (λ m. m.id) machines ≡ ids
   pub each : AllByRecursion IsNew machines
 
@@ -57,40 +58,43 @@ pub record IsFrameAt (sent : List Sent) (bytes : List ℕ) : Type 0 where
   pub i : ℕ
   pub is : slice_get (map (λ (x : Sent). x.bytes) sent) i ≡ Some bytes
 
--- each frame has a message in a packet, or is a question or an answer of a pre-vote
-abbrev pub IsOf : Option Message → List ℕ → Type 0
-IsOf None bytes = IsQuestion bytes
-IsOf (Some m) bytes = IsFrameOf bytes m
+module _ {S : Type 0} (app : Application S) (codec : Codec S) where
+  -- each frame has a message in a packet, or is a question or an answer of a pre-vote
+  abbrev pub IsOf : Option (PackedMessage S) → List ℕ → Type 0
+  IsOf None bytes = IsQuestion bytes
+  IsOf (Some m) bytes = IsFrameOf app codec bytes m
 
-abbrev pub AreOf : List (Option Message) → List (List ℕ) → Type 0
-AreOf [] [] = Unit {0}
-AreOf [] (frame ∷ frames) = ⊥
-AreOf (x ∷ xs) [] = ⊥
-AreOf (x ∷ xs) (frame ∷ frames) = IsOf x frame × AreOf xs frames
+  abbrev pub AreOf : List (Option (PackedMessage S)) → List (List ℕ) → Type 0
+  AreOf [] [] = Unit {0}
+  AreOf [] (frame ∷ frames) = ⊥
+  AreOf (x ∷ xs) [] = ⊥
+  AreOf (x ∷ xs) (frame ∷ frames) = IsOf x frame × AreOf xs frames
 
--- these messages have left in frames, in this order, and no others
-pub record Carries (bag : List Message) (frames : List (List ℕ)) : Type 0 where
-  pub carried : List (Option Message)
-  pub each : AreOf carried frames
-  pub messages : flat_map option_to_list carried ≡ bag
+  -- these messages have left in frames, in this order, and no others
+  pub record Carries (bag : List (PackedMessage S)) (frames : List (List ℕ)) : Type 0 where
+    pub carried : List (Option (PackedMessage S))
+    pub each : AreOf carried frames
+    pub messages : flat_map option_to_list carried ≡ bag
 
 -- What clients are told
 
-abbrev pub entries_told : Told → List Entry
-entries_told t = map (λ x. x.entry) t.executed.items
+module _ {S : Type 0} where
+  abbrev pub entries_told : Told S → List Entry
+  entries_told t = map (λ x. x.entry) t.executed.items
 
-abbrev pub snapshots_told : Told → List (List Entry)
-snapshots_told t = map (λ x. x.entries) t.installed.items
+  abbrev pub snapshots_told : Told S → List (Packed S)
+  snapshots_told t = map (λ x. x.snapshot) t.installed.items
 
-abbrev pub replies_told : Told → List Reply
-replies_told t = map (λ x. x.1) (answers_told t)
+  abbrev pub replies_told : Told S → List Reply
+  replies_told t = map (λ x. x.1) (answers_told t)
 
 -- replies of a server
 abbrev pub answers_of : ℕ → List Reply → List (ℕ × Reply)
 answers_of node replies = map (λ r. (node, r)) replies
 
 -- what leaves a server goes to the network and to clients, behind what was there
-pub record Leaves (node : ℕ) (out : List Output) (network : Network) (told : Told) (network' : Network) (told' : Told) : Type 0 where
+pub record Leaves {S : Type 0} (node : ℕ) (out : List (Output S)) (network : Network) (told : Told S)
+    (network' : Network) (told' : Told S) : Type 0 where
   pub frames : frames_of network' ≡ frames_of network ++ frames_in out
   pub executed : entries_told told' ≡ entries_told told ++ executed_in out
   pub installed : snapshots_told told' ≡ snapshots_told told ++ installed_in out
@@ -102,42 +106,44 @@ abbrev pub noted_if : Bool → Noted → List Noted → List Noted
 noted_if true row noted = noted ++ row ∷ []
 noted_if false row noted = noted
 
-pub record Notes (taken : Bool) (node : ℕ) (token : Token) (operation : Operation) (told told' : Told) : Type 0 where
+pub record Notes {S : Type 0} (taken : Bool) (node : ℕ) (token : Token) (operation : Operation) (told told' : Told S)
+    : Type 0 where
   pub rest : told' ≡ record told { asked = told'.asked }
   pub asked : told'.asked.items ≡ noted_if taken (record { node = node; token = token; operation = operation; after = length told.answered.items }) told.asked.items
 
 -- clients were told of what these records have as executed and installed
-pub record IsTold (r : Records (List Entry)) (told : Told) : Type 0 where
+pub record IsTold {S : Type 0} (r : PackedRecords S) (told : Told S) : Type 0 where
   pub executed : entries_told told ≡ map (λ x. x.entry) r.executed
-  pub installed : snapshots_told told ≡ map (λ x. x.entries) r.installed
+  pub installed : snapshots_told told ≡ map (λ x. x.snapshot) r.installed
 
 -- Clusters
 
--- each machine stands for the model's server with its id; the network has all messages that left the model's servers, and clients
--- were told what left those
-pub record IsCluster (model : ModelCluster) (c : Cluster) : Type 0 where
-  pub ids : map (λ m. m.id) c.machines.items ≡ c.given.ids
-  pub servers : AllByRecursion (λ m. IsServer c.given (model.servers m.id) m) c.machines.items
-  pub sent : Carries model.released.bag (frames_of c.network)
-  pub told : IsTold model.released c.told
+module _ {S : Type 0} (app : Application S) (codec : Codec S) where
+  -- each machine stands for the model's server with its id; the network has all messages that left the model's servers, and clients
+  -- were told what left those
+  pub record IsCluster (model : PackedCluster S) (c : Cluster S) : Type 0 where
+    pub ids : map (λ m. m.id) c.machines.items ≡ c.given.ids
+    pub servers : AllByRecursion (λ m. IsServer app codec c.given (model.servers m.id) m) c.machines.items
+    pub sent : Carries app codec model.released.bag (frames_of c.network)
+    pub told : IsTold model.released c.told
 
--- A cluster follows some actions of the model's servers, each of which may happen: so no server takes a message that none sent. Its
--- servers and their clients are beside the same actions (`proof_requests`): the cores that run, the frames that have left, and what
--- was asked and told are theirs.
-pub record Follows (c : Cluster) : Type 0 where
-  pub given : IsWellFormed c.given
-  pub actions : List Action
-  pub placed : List Placed
-  pub cores : Cores
-  pub beside : AreBeside c.given actions placed cores
-  pub is : IsCluster (after_actions c.given actions (new_cluster c.given)) c
-  pub running : AllByRecursion (λ m. cores.cores m.id ≡ m.core) c.machines.items
-  pub frames : frames_of c.network ≡ cores.sent
-  pub clients : AreClients (length actions) cores c.told.asked.items (answers_told c.told)
+  -- A cluster follows some actions of the model's servers, each of which may happen: so no server takes a message that none sent. Its
+  -- machines stand for these servers, packed. Its servers and their clients are beside the same actions (`proof_requests`): the cores
+  -- that run, the frames that have left, and what was asked and told are theirs.
+  pub record Follows (c : Cluster S) : Type 0 where
+    pub given : IsWellFormed c.given
+    pub actions : List Action
+    pub placed : List Placed
+    pub cores : Cores S
+    pub beside : AreBeside app codec c.given actions placed cores
+    pub is : IsCluster (cluster_packed app (after_actions c.given actions (new_cluster c.given))) c
+    pub running : AllByRecursion (λ m. cores.cores m.id ≡ m.core) c.machines.items
+    pub frames : frames_of c.network ≡ cores.sent
+    pub clients : AreClients (length actions) cores c.told.asked.items (answers_told c.told)
 
--- the model's cluster then
-abbrev pub model_of : {c : Cluster} → Follows c → ModelCluster
-model_of {c} f = after_actions c.given f.actions (new_cluster c.given)
+  -- the model's cluster then
+  abbrev pub model_of : {c : Cluster S} → Follows c → ModelCluster
+  model_of {c} f = after_actions c.given f.actions (new_cluster c.given)
 
 -- Acknowledgements
 
@@ -157,18 +163,18 @@ abbrev pub IsKept : List Entry → Reply → Type 0
 IsKept entries r = IfSome (acknowledged_at r.answer) (λ index. HasEntryAt index entries)
 
 -- each answer that acknowledges a request does so
-abbrev pub KeepsAcknowledged : Told → Type 0
+abbrev pub KeepsAcknowledged : {S : Type 0} → Told S → Type 0
 KeepsAcknowledged told = AllByRecursion (IsKept (entries_told told)) (replies_told told)
 
 -- up to which index a server that runs has handed out entries, as far as it knows: clients were told of the entry there
-abbrev pub HasHanded : List Entry → Machine → Type 0
+abbrev pub HasHanded : {S : Type 0} → List Entry → Machine S → Type 0
 HasHanded entries m = IfSome m.core (λ v. IfSome v.executed (λ index. HasEntryAt index entries))
 
 -- What holds of a cluster. As long as no byte of a disk is changed by hand and no packet of a stranger is taken, it follows the model
 -- and no acknowledged write is lost: each was executed with its bytes. Whatever happens, an answer that acknowledges a request names
 -- the index of an entry that was executed.
-pub record Holds (c : Cluster) : Type 0 where
-  pub follows : c.damaged ≡ false → Follows c
+pub record Holds {S : Type 0} (app : Application S) (codec : Codec S) (c : Cluster S) : Type 0 where
+  pub follows : c.damaged ≡ false → Follows app codec c
   pub writes : c.damaged ≡ false → KeepsWrites (entries_told c.told) c.told
   pub keeps : KeepsAcknowledged c.told
   pub handed : AllByRecursion (HasHanded (entries_told c.told)) c.machines.items

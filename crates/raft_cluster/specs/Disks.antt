@@ -8,10 +8,11 @@ abbrev pub bytes_of : Option Handed → List ℕ
 bytes_of None = []
 bytes_of (Some w) = w.bytes
 
--- the disk with those that were handed out
-abbrev pub flushed : Machine → List ℕ
-flushed m = m.disk.items ++ bytes_of m.written
+module _ {S : Type 0} where
+  -- the disk with those that were handed out
+  abbrev pub flushed : Machine S → List ℕ
+  flushed m = m.disk.items ++ bytes_of m.written
 
--- the disk with so many of them
-abbrev pub torn : ℕ → Machine → List ℕ
-torn count m = m.disk.items ++ take count (bytes_of m.written)
+  -- the disk with so many of them
+  abbrev pub torn : ℕ → Machine S → List ℕ
+  torn count m = m.disk.items ++ take count (bytes_of m.written)

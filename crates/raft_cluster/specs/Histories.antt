@@ -1,5 +1,5 @@
 -- What clients asked of a cluster and were told is a history of one object, and linearizable (Herlihy and Wing, Linearizability: A
--- Correctness Condition for Concurrent Objects, 1990).
+-- Correctness Condition for Concurrent Objects, 1990). A is the servers' state machine's state: none of it is read here.
 use Rattle.std.specs.Prelude.{ℕ, ◌+◌, ◌<◌, ◌≤◌, ◌≡◌, Contains, List, [], ◌++◌, Option, None, Some, slice_get}
 use Rattle.raft_answers.specs.declared.answer.Answer.TheVariants.{Ok}
 use Rattle.raft_answers.specs.declared.request.Operation.TheVariants.{Read, Write}
@@ -14,7 +14,7 @@ use Rattle.raft_cluster.specs.declared.told.Asked.{Asked}
 use Rattle.raft_cluster.specs.declared.told.Told.{Told}
 
 -- the answer with place j is one to the request with place i: it is by that request's server, has its token, and left after it came
-pub record IsAnswerTo (told : Told) (i j : ℕ) (x : Answered) : Type 0 where
+pub record IsAnswerTo {A : Type 0} (told : Told A) (i j : ℕ) (x : Answered) : Type 0 where
   pub request : Asked
   pub there : slice_get told.asked.items i ≡ Some request
   pub node : request.node ≡ x.node
@@ -23,7 +23,7 @@ pub record IsAnswerTo (told : Told) (i j : ℕ) (x : Answered) : Type 0 where
 
 -- Moments of a run: when the request with each place came, and the answer with each place left; and of each answer the place of its
 -- request, which has no other. What was told before a request came had left by then.
-pub record Moments (told : Told) : Type 0 where
+pub record Moments {A : Type 0} (told : Told A) : Type 0 where
   pub came : ℕ → ℕ
   pub left : ℕ → ℕ
   pub of : ℕ → ℕ
@@ -38,7 +38,7 @@ IsWriteOf bytes a = a.operation ≡ Write bytes
 abbrev pub IsRead : Asked → Type 0
 IsRead a = a.operation ≡ Read
 
-module _ (told : Told) (t : Moments told) where
+module _ {A : Type 0} (told : Told A) (t : Moments told) where
   -- the answer with place j acknowledges a write of these bytes, or a read, with this index
   pub record Acknowledges (j : ℕ) (operation : Asked → Type 0) (index : ℕ) : Type 0 where
     pub answered : Answered
@@ -92,7 +92,7 @@ module _ (told : Told) (t : Moments told) where
 
 -- Clients see one object: what they were told is what it answers, in an order that respects real time. Each update is of a request,
 -- and no two of one, or is a marker; each acknowledged write is the update of its request, and each acknowledged read a query.
-pub record SeesOne {S R : Type 0} (m : Object S R) (told : Told) : Type 0 where
+pub record SeesOne {A S R : Type 0} (m : Object S R) (told : Told A) : Type 0 where
   pub moments : Moments told
   pub updates : List (Operation R)
   pub writers : List (Option ℕ)
@@ -113,6 +113,6 @@ pub record HasBytesAt (bytes : List ℕ) (index : ℕ) (entries : List Entry) : 
   pub value : entry.payload ≡ payload.Value (Bytes bytes)
 
 -- each acknowledged write was executed: clients were told of an entry with its bytes, at the index that its answer names
-pub record KeepsWrites (entries : List Entry) (told : Told) : Type 0 where
+pub record KeepsWrites {A : Type 0} (entries : List Entry) (told : Told A) : Type 0 where
   pub moments : Moments told
   pub writes : (j : ℕ) (bytes : List ℕ) (index : ℕ) → Acknowledges told moments j (IsWriteOf bytes) index → HasBytesAt bytes index entries

@@ -56,6 +56,10 @@ pub enum Action {
         id: u64,
         bytes: Items<u8>,
     },
+    /// A server begins a new log, if its log is long, which takes the old one's place on its disk.
+    Checkpoint(u64),
+    /// A server begins a new log, if its log is long, and stops before that one has taken the old one's place.
+    CrashInCheckpoint(u64),
     /// A server stops. Of what it handed out and isn't flushed so many bytes are on its disk.
     Crash {
         id: u64,
@@ -156,6 +160,8 @@ impl fmt::Display for Action {
                 let bytes = Hex(bytes.as_slice());
                 write!(f, "receive {id} x{bytes}")
             }
+            Action::Checkpoint(id) => write!(f, "checkpoint {id}"),
+            Action::CrashInCheckpoint(id) => write!(f, "checkpoint {id} crash"),
             Action::Crash { id, bytes } => write!(f, "crash {id} at {bytes}"),
             Action::Corrupt { id, position } => write!(f, "corrupt {id} {position}"),
             Action::Run(span) => write!(f, "run {span}"),

@@ -12,10 +12,12 @@ use crate::error::ClusterError;
 use crate::machine::{Done, Machine};
 use crate::network::Network;
 use crate::told::Told;
+use proof_requests::raft_core::{Config, Output};
 use raft_answers::{Operation, Token};
-use raft_core::{Config, Output};
 use raft_node::given::Given;
-use raft_node::record::{Executed, Installed};
+use raft_node::record::Executed;
+use raft_packed::Machine as StateMachine;
+use raft_packed_wire::raft_packed_node::PackedInstalled;
 use raft_state::Items;
 use raft_world::refusals_of_new;
 use std::alloc::{AllocError, Global};
@@ -28,24 +30,30 @@ const ROUNDS: u64 = 4;
 
 /// Servers, their disks, all that ever left a server for others, and what clients asked for and were told.
 #[derive(Drop)]
-pub struct Cluster {
+pub struct Cluster<M: StateMachine> {
     alloc: Global,
     given: Given,
     config: Config,
-    machines: Vec<Machine>,
+    machines: Vec<Machine<M>>,
     network: Network,
-    told: Told,
+    told: Told<M>,
     /// The random numbers of servers that run.
     dice: Dice,
     /// Whether a byte on a disk was changed by hand, or a packet of a stranger was taken.
     damaged: bool,
 }
 
-#[tactic(auto, unfolding(crate::specs::Clusters::place_of))]
-fn place_of(machines: &[Machine], id: u64) -> Option<usize>
+/// The place of the server with this id.
+fn place_of<M: StateMachine>(machines: &[Machine<M>], id: u64) -> Option<usize>
     ensures { result ≡ place_of machines.now id }
 {
-    machines.iter().position(|machine| machine.id() == id)
+    for place in 0..machines.len() {
+        let here = machines[place].id();
+        if here == id {
+            return Some(place);
+        }
+    }
+    None
 }
 
 /// What each server is given.
@@ -60,7 +68,7 @@ fn copy_given(given: &Given) -> Result<Given, AllocError>
 }
 
 /// Machines with these ids, none of which is open.
-fn make_machines(alloc: Global, ids: &[u64]) -> Result<Vec<Machine>, AllocError>
+fn make_machines<M: StateMachine>(alloc: Global, ids: &[u64]) -> Result<Vec<Machine<M>>, AllocError>
     ensures fresh { IfOk result (λ machines. AreNew ids.now machines.items) }
     ensures named { IfOk result (λ _. All (λ id. id < 2 ^ 64) ids.now) }
 {
@@ -72,29 +80,29 @@ fn make_machines(alloc: Global, ids: &[u64]) -> Result<Vec<Machine>, AllocError>
 }
 
 /// An output leaves a server: a frame for another, or what clients are told.
-fn release(
+fn release<M: StateMachine>(
     node: u64,
-    output: Output,
+    output: Output<M>,
     network: &mut Network,
-    told: &mut Told,
+    told: &mut Told<M>,
 ) -> Result<(), AllocError>
     ensures { OnOk result (Leaves node (output ∷ []) network.old told.old network.new told.new) }
 {
     match output {
         Output::Send { to, bytes } => network.send(node, to, bytes),
         Output::Append { .. } => Ok(()),
-        Output::Install { entries } => Ok(told.installed.push(Installed { node, entries })?),
+        Output::Install(snapshot) => Ok(told.installed.push(PackedInstalled { node, snapshot })?),
         Output::Execute(entry) => Ok(told.executed.push(Executed { node, entry })?),
         Output::Reply(reply) | Output::Read(reply) => told.answer(node, reply),
     }
 }
 
 /// Outputs leave a server, in this order.
-fn release_all(
+fn release_all<M: StateMachine>(
     node: u64,
-    outputs: Vec<Output>,
+    outputs: Vec<Output<M>>,
     network: &mut Network,
-    told: &mut Told,
+    told: &mut Told<M>,
 ) -> Result<(), AllocError>
     ensures { OnOk result (Leaves node outputs.items network.old told.old network.new told.new) }
 {
@@ -105,11 +113,11 @@ fn release_all(
 }
 
 /// What a call of a server has done: its outputs leave.
-fn finish(
+fn finish<M: StateMachine>(
     node: u64,
-    done: Done,
+    done: Done<M>,
     network: &mut Network,
-    told: &mut Told,
+    told: &mut Told<M>,
 ) -> Result<Comes, AllocError>
     ensures { OnOk result (Leaves node done.outputs.items network.old told.old network.new told.new) }
 {
@@ -136,12 +144,12 @@ fn is_done(comes: &Comes) -> bool
 }
 
 /// A request is noted if it was taken by a server.
-fn note_asked(
+fn note_asked<M: StateMachine>(
     taken: bool,
     node: u64,
     token: Token,
     operation: Operation,
-    told: &mut Told,
+    told: &mut Told<M>,
 ) -> Result<(), AllocError>
     ensures { OnOk result (Notes taken node token operation told.old told.new) }
 {
@@ -172,12 +180,12 @@ fn is_forged(bytes: &[u8], comes: &Comes) -> bool
     }
 }
 
-impl Cluster {
+impl<M: StateMachine> Cluster<M> {
     /// Servers with empty disks, none of which is open.
     ///
     /// Refused as [`raft_world::World::new`] refuses the nodes and the first membership, or out of memory.
     pub fn new(alloc: Global, given: Given, config: Config) -> Result<Self, ClusterError>
-        ensures holds { IfOk result (λ cluster. Holds cluster) }
+        ensures holds { IfOk result (λ cluster. Holds M.application M.codec cluster) }
         ensures given { IfOk result (λ cluster. cluster.given ≡ given) }
         ensures damaged { IfOk result (λ cluster. cluster.damaged ≡ false) }
     {
@@ -203,14 +211,14 @@ impl Cluster {
     }
 
     /// The servers.
-    pub fn machines(&self) -> &[Machine]
+    pub fn machines(&self) -> &[Machine<M>]
         ensures { result.now ≡ self.now.machines.items }
     {
         &self.machines
     }
 
     /// The server with this id.
-    pub fn machine(&self, id: u64) -> Option<&Machine> {
+    pub fn machine(&self, id: u64) -> Option<&Machine<M>> {
         self.machines.get(place_of(&self.machines, id)?)
     }
 
@@ -222,7 +230,7 @@ impl Cluster {
     }
 
     /// What clients asked for, and what they were told.
-    pub fn told(&self) -> &Told
+    pub fn told(&self) -> &Told<M>
         ensures { result.now ≡ self.now.told }
     {
         &self.told
@@ -236,7 +244,7 @@ impl Cluster {
     }
 
     fn start(&mut self, id: u64) -> Result<Comes, AllocError>
-        ensures { OnOk result (Holds self.old → Holds self.new) }
+        ensures { OnOk result (Holds M.application M.codec self.old → Holds M.application M.codec self.new) }
     {
         let given = copy_given(&self.given)?;
         let Some(place) = place_of(&self.machines, id) else {
@@ -246,7 +254,7 @@ impl Cluster {
     }
 
     fn initialize(&mut self, id: u64) -> Comes
-        ensures { Holds self.old → Holds self.new }
+        ensures { Holds M.application M.codec self.old → Holds M.application M.codec self.new }
     {
         let Some(place) = place_of(&self.machines, id) else {
             return Comes::NoServer;
@@ -255,7 +263,7 @@ impl Cluster {
     }
 
     fn tick(&mut self, id: u64, elapsed: u64, random: u64) -> Result<Comes, AllocError>
-        ensures { OnOk result (Holds self.old → Holds self.new) }
+        ensures { OnOk result (Holds M.application M.codec self.old → Holds M.application M.codec self.new) }
     {
         let Some(place) = place_of(&self.machines, id) else {
             return Ok(Comes::NoServer);
@@ -266,7 +274,7 @@ impl Cluster {
 
     /// A server takes a client's request, or refuses it.
     fn ask(&mut self, id: u64, token: Token, operation: Operation) -> Result<Comes, AllocError>
-        ensures { OnOk result (Holds self.old → Holds self.new) }
+        ensures { OnOk result (Holds M.application M.codec self.old → Holds M.application M.codec self.new) }
     {
         let Some(place) = place_of(&self.machines, id) else {
             return Ok(Comes::NoServer);
@@ -279,7 +287,7 @@ impl Cluster {
 
     /// A server takes a client's read that needs no entry, or refuses it.
     fn read(&mut self, id: u64, token: Token) -> Result<Comes, AllocError>
-        ensures { OnOk result (Holds self.old → Holds self.new) }
+        ensures { OnOk result (Holds M.application M.codec self.old → Holds M.application M.codec self.new) }
     {
         let Some(place) = place_of(&self.machines, id) else {
             return Ok(Comes::NoServer);
@@ -295,7 +303,7 @@ impl Cluster {
         voters: &Items<u64>,
         learners: &Items<u64>,
     ) -> Result<Comes, AllocError>
-        ensures { OnOk result (Holds self.old → Holds self.new) }
+        ensures { OnOk result (Holds M.application M.codec self.old → Holds M.application M.codec self.new) }
     {
         let voters = voters.copy()?.into_vec();
         let learners = learners.copy()?.into_vec();
@@ -307,7 +315,8 @@ impl Cluster {
 
     /// The bytes of a frame that has left come to a server.
     fn hand(&mut self, id: u64, bytes: &[u8]) -> Result<Comes, AllocError>
-        ensures { IsFrameAt self.old.network.sent.items bytes.now → OnOk result (Holds self.old → Holds self.new) }
+        ensures { IsFrameAt self.old.network.sent.items bytes.now
+            → OnOk result (Holds M.application M.codec self.old → Holds M.application M.codec self.new) }
     {
         let Some(place) = place_of(&self.machines, id) else {
             return Ok(Comes::NoServer);
@@ -318,7 +327,7 @@ impl Cluster {
 
     /// The frame with this number is taken by its addressee.
     fn deliver(&mut self, number: u64) -> Result<Comes, AllocError>
-        ensures { OnOk result (Holds self.old → Holds self.new) }
+        ensures { OnOk result (Holds M.application M.codec self.old → Holds M.application M.codec self.new) }
     {
         let Some(sent) = self.network.frame(number) else {
             return Ok(Comes::NoFrame);
@@ -330,7 +339,7 @@ impl Cluster {
 
     /// The frames that wait are taken by their addressees, but not those that leave meanwhile.
     fn deliver_all(&mut self) -> Result<(), AllocError>
-        ensures { OnOk result (Holds self.old → Holds self.new) }
+        ensures { OnOk result (Holds M.application M.codec self.old → Holds M.application M.codec self.new) }
     {
         'frames: for number in self.network.take_waiting(self.alloc) {
             self.deliver(number)?;
@@ -340,7 +349,7 @@ impl Cluster {
 
     /// A stranger's bytes come to a server.
     fn receive(&mut self, id: u64, bytes: &[u8]) -> Result<Comes, AllocError>
-        ensures { OnOk result (Holds self.old → Holds self.new) }
+        ensures { OnOk result (Holds M.application M.codec self.old → Holds M.application M.codec self.new) }
     {
         let Some(place) = place_of(&self.machines, id) else {
             return Ok(Comes::NoServer);
@@ -352,7 +361,7 @@ impl Cluster {
     }
 
     fn write(&mut self, id: u64) -> Result<Comes, AllocError>
-        ensures { OnOk result (Holds self.old → Holds self.new) }
+        ensures { OnOk result (Holds M.application M.codec self.old → Holds M.application M.codec self.new) }
     {
         let Some(place) = place_of(&self.machines, id) else {
             return Ok(Comes::NoServer);
@@ -362,7 +371,7 @@ impl Cluster {
     }
 
     fn flush(&mut self, id: u64) -> Result<Comes, AllocError>
-        ensures { OnOk result (Holds self.old → Holds self.new) }
+        ensures { OnOk result (Holds M.application M.codec self.old → Holds M.application M.codec self.new) }
     {
         let Some(place) = place_of(&self.machines, id) else {
             return Ok(Comes::NoServer);
@@ -371,8 +380,28 @@ impl Cluster {
         finish(id, done, &mut self.network, &mut self.told)
     }
 
+    /// A server begins a new log, if its log is long.
+    fn checkpoint(&mut self, id: u64) -> Comes
+        ensures { Holds M.application M.codec self.old → Holds M.application M.codec self.new }
+    {
+        let Some(place) = place_of(&self.machines, id) else {
+            return Comes::NoServer;
+        };
+        self.machines[place].begin_log()
+    }
+
+    /// A server stops while it begins a new log.
+    fn crash_in_checkpoint(&mut self, id: u64) -> Comes
+        ensures { Holds M.application M.codec self.old → Holds M.application M.codec self.new }
+    {
+        let Some(place) = place_of(&self.machines, id) else {
+            return Comes::NoServer;
+        };
+        self.machines[place].crash_in_begin_log()
+    }
+
     fn crash(&mut self, id: u64, bytes: u64) -> Result<Comes, AllocError>
-        ensures { OnOk result (Holds self.old → Holds self.new) }
+        ensures { OnOk result (Holds M.application M.codec self.old → Holds M.application M.codec self.new) }
     {
         let Some(place) = place_of(&self.machines, id) else {
             return Ok(Comes::NoServer);
@@ -381,7 +410,7 @@ impl Cluster {
     }
 
     fn corrupt(&mut self, id: u64, position: u64) -> Comes
-        ensures { Holds self.old → Holds self.new }
+        ensures { Holds M.application M.codec self.old → Holds M.application M.codec self.new }
     {
         self.damaged = true;
         let Some(place) = place_of(&self.machines, id) else {
@@ -397,7 +426,7 @@ impl Cluster {
 
     /// Frames are delivered, then each server lets out what waits for no record, writes and flushes.
     fn settle(&mut self) -> Result<(), AllocError>
-        ensures { OnOk result (Holds self.old → Holds self.new) }
+        ensures { OnOk result (Holds M.application M.codec self.old → Holds M.application M.codec self.new) }
     {
         self.deliver_all()?;
         'servers: for id in self.ids()? {
@@ -410,7 +439,7 @@ impl Cluster {
 
     /// All servers run for a step.
     fn run_step(&mut self) -> Result<(), AllocError>
-        ensures { OnOk result (Holds self.old → Holds self.new) }
+        ensures { OnOk result (Holds M.application M.codec self.old → Holds M.application M.codec self.new) }
     {
         'ticks: for id in self.ids()? {
             let random = self.dice.draw();
@@ -424,7 +453,7 @@ impl Cluster {
 
     /// All servers run for so many milliseconds.
     fn run(&mut self, span: u64) -> Result<(), AllocError>
-        ensures { OnOk result (Holds self.old → Holds self.new) }
+        ensures { OnOk result (Holds M.application M.codec self.old → Holds M.application M.codec self.new) }
     {
         'steps: for _ in 0..span / STEP {
             self.run_step()?;
@@ -434,7 +463,7 @@ impl Cluster {
 
     /// Requests come to a server until so many have no answer: how many came. `first` is the token of the first.
     fn fill(&mut self, id: u64, first: u64, bytes: u64, limit: u64) -> Result<u64, AllocError>
-        ensures { OnOk result (Holds self.old → Holds self.new) }
+        ensures { OnOk result (Holds M.application M.codec self.old → Holds M.application M.codec self.new) }
     {
         'requests: for number in 0..limit {
             let token = first.saturating_add(number);
@@ -449,7 +478,7 @@ impl Cluster {
 
     /// So many writes come to a server, at most so many without an answer: how many answers came.
     fn load(&mut self, id: u64, count: u64, bytes: u64, waiting: u64) -> Result<usize, AllocError>
-        ensures { OnOk result (Holds self.old → Holds self.new) }
+        ensures { OnOk result (Holds M.application M.codec self.old → Holds M.application M.codec self.new) }
     {
         let before = self.told.answered.len();
         let mut asked = 0u64;
@@ -471,7 +500,7 @@ impl Cluster {
 
     /// What comes of lines that stand for many.
     fn play_many(&mut self, action: &Action) -> Result<Comes, AllocError>
-        ensures { OnOk result (Holds self.old → Holds self.new) }
+        ensures { OnOk result (Holds M.application M.codec self.old → Holds M.application M.codec self.new) }
     {
         match action {
             Action::DeliverAll => self.deliver_all()?,
@@ -493,7 +522,7 @@ impl Cluster {
     /// what those of the model do, what clients asked and were told is linearizable ([`crate::clusters_see_one_object`]), and no
     /// acknowledged write is lost. Whatever actions come, an acknowledged request has an entry at its index that was executed (`Holds`).
     pub fn play(&mut self, action: &Action) -> Result<Comes, AllocError>
-        ensures { OnOk result (Holds self.old → Holds self.new) }
+        ensures { OnOk result (Holds M.application M.codec self.old → Holds M.application M.codec self.new) }
     {
         match action {
             Action::Start(id) => self.start(*id),
@@ -521,6 +550,8 @@ impl Cluster {
                 self.deliver(*number)
             }
             Action::Receive { id, bytes } => self.receive(*id, bytes.as_slice()),
+            Action::Checkpoint(id) => Ok(self.checkpoint(*id)),
+            Action::CrashInCheckpoint(id) => Ok(self.crash_in_checkpoint(*id)),
             Action::Crash { id, bytes } => self.crash(*id, *bytes),
             Action::Corrupt { id, position } => Ok(self.corrupt(*id, *position)),
             _ => self.play_many(action),

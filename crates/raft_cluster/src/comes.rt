@@ -1,7 +1,7 @@
 //! What comes of an action.
 
-use raft_core::{CoreError, FrameError, RequestError};
-use raft_server::OpenError;
+use proof_requests::raft_core::{CoreError, FrameError, RequestError};
+use proof_requests::raft_packed_server::OpenError;
 use std::fmt;
 
 /// What comes of an action.
@@ -37,6 +37,10 @@ pub enum Comes {
     Flushed { len: usize },
     /// Nothing was handed out.
     NothingFlushed,
+    /// A new log has taken the old one's place on disk, which has so many bytes now.
+    Replaced { len: usize },
+    /// No new log begins.
+    NoNewLog,
     /// The server stopped, and its disk has so many bytes now.
     Crashed { len: usize },
     /// The disk has no such byte.
@@ -71,6 +75,8 @@ impl fmt::Display for Comes {
             Comes::NothingWritten => f.write_str("nothing to write"),
             Comes::Flushed { len } => write!(f, "{len} bytes on disk"),
             Comes::NothingFlushed => f.write_str("nothing to flush"),
+            Comes::Replaced { len } => write!(f, "a new log of {len} bytes"),
+            Comes::NoNewLog => f.write_str("no new log"),
             Comes::Crashed { len } => write!(f, "{len} bytes on disk"),
             Comes::NoByte => f.write_str("no such byte"),
         }

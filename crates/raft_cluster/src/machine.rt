@@ -1,19 +1,21 @@
 //! A server and its disk.
 
 ghost use Rattle.std.specs.Prelude.{◌≡◌, ◌++◌, [], IfOk, None, OnOk, length, take, true};
-ghost use Rattle.raft_core.specs.Calls.{Receives, Ticks};
+ghost use Rattle.proof_requests.specs.raft_core.Calls.{Receives, Ticks};
 ghost use Rattle.proof_requests.specs.Actions.{Initializes};
-ghost use Rattle.raft_cluster.specs.Calls.{ByCore, ByFlush, ByWrite, Calls, Never, ReadsIf, Refuses, RequestsIf, StartsIf, Stops};
+ghost use Rattle.raft_cluster.specs.Calls.{ByCore, ByFlush, ByNewLog, ByWrite, Calls, Never, ReadsIf, Refuses, RequestsIf, StartsIf, Stops};
 ghost use Rattle.raft_cluster.specs.Calls.{is_done, is_opened, is_refused, with_handed};
 ghost use Rattle.raft_cluster.specs.Clusters.{IsNew};
 ghost use Rattle.raft_cluster.specs.Disks.{bytes_of, torn};
 ghost use Rattle.raft_cluster.specs.Outputs.{handed_in, others_in};
+ghost use Rattle.raft_cluster.specs.Servers.{log_on};
 
 use crate::comes::Comes;
+use proof_requests::raft_core::{Config, FrameError, OpenedCore, Output, RaftCore};
 use raft_answers::{Operation, Token};
-use raft_core::{Config, FrameError, OpenedCore, Output, RaftCore};
 use raft_frames::LogId;
 use raft_node::given::Given;
+use raft_packed::Machine as StateMachine;
 use raft_state::Items;
 use std::alloc::{AllocError, Global};
 
@@ -22,9 +24,9 @@ const CLUSTER: u64 = 1;
 
 /// A server, while it is open, and its disk, which it knows only by what it reads when it opens.
 #[derive(Drop)]
-pub struct Machine {
+pub struct Machine<M: StateMachine> {
     id: u64,
-    core: Option<RaftCore>,
+    core: Option<RaftCore<M>>,
     disk: Vec<u8>,
     /// What the server has handed out for its log's end, and isn't on disk.
     written: Option<Handed>,
@@ -41,9 +43,9 @@ pub struct Handed {
 
 /// What comes of a call, and what leaves the server.
 #[derive(Drop)]
-pub struct Done {
+pub struct Done<M: StateMachine> {
     pub comes: Comes,
-    pub outputs: Vec<Output>,
+    pub outputs: Vec<Output<M>>,
 }
 
 /// The first bytes of some, at most so many.
@@ -64,7 +66,10 @@ fn spill(written: &Option<Handed>, count: u64, disk: &mut Vec<u8>) -> Result<(),
 }
 
 /// What leaves, without the bytes for the log's end, and these.
-fn split(alloc: Global, outputs: Vec<Output>) -> Result<(Vec<Output>, Option<Handed>), AllocError>
+fn split<M: StateMachine>(
+    alloc: Global,
+    outputs: Vec<Output<M>>,
+) -> Result<(Vec<Output<M>>, Option<Handed>), AllocError>
     ensures others { IfOk result (λ found. found.0.items ≡ others_in outputs.items) }
     ensures handed { IfOk result (λ found. found.1 ≡ handed_in outputs.items) }
 {
@@ -79,7 +84,7 @@ fn split(alloc: Global, outputs: Vec<Output>) -> Result<(Vec<Output>, Option<Han
     Ok((others, handed))
 }
 
-impl Done {
+impl<M: StateMachine> Done<M> {
     /// Nothing leaves.
     fn quiet(alloc: Global, comes: Comes) -> Self
         ensures comes { result.comes ≡ comes }
@@ -92,7 +97,7 @@ impl Done {
     }
 }
 
-impl Machine {
+impl<M: StateMachine> Machine<M> {
     /// A server with an empty disk, which isn't open.
     pub fn new(alloc: Global, id: u64) -> Self
         ensures id { result.id ≡ id }
@@ -112,6 +117,16 @@ impl Machine {
         ensures { result ≡ self.now.id }
     {
         self.id
+    }
+
+    /// Whose log is on its disk.
+    fn log(&self) -> LogId
+        ensures { result ≡ log_on self.now }
+    {
+        LogId {
+            cluster: CLUSTER,
+            node: self.id,
+        }
     }
 
     /// How many bytes are on disk.
@@ -143,27 +158,24 @@ impl Machine {
     fn close(&mut self)
         ensures { self.new ≡ record self.old { core = None; written = None } }
     {
-        self.core = None;
+        drop(self.core.take());
         self.written = None;
     }
 
     /// Opens the server on its disk. What stands behind its log is cut off.
     pub fn start(&mut self, alloc: Global, given: Given, config: &Config) -> Comes
-        ensures starts { StartsIf (is_opened result) given self.old self.new }
+        ensures starts { StartsIf M.application M.codec (is_opened result) given self.old self.new }
         ensures id { self.new.id ≡ self.old.id }
     {
         if self.core.is_some() {
             return Comes::AlreadyOpen;
         }
-        let id = LogId {
-            cluster: CLUSTER,
-            node: self.id,
-        };
-        match RaftCore::open(alloc, given, config, &id, &self.disk) {
-            Ok(OpenedCore { core, end }) => {
+        let name = self.log();
+        match RaftCore::open(alloc, given, config, &name, &self.disk) {
+            Ok(OpenedCore { core, end, .. }) => {
                 let len = self.disk.len();
                 self.disk.truncate(end);
-                self.core = Some(core);
+                drop(self.core.replace(core));
                 Comes::Opened { end, len }
             }
             Err(error) => Comes::NotOpened(error),
@@ -172,7 +184,7 @@ impl Machine {
 
     /// The server is given the first entry of a new cluster.
     pub fn initialize(&mut self) -> Comes
-        ensures does { Calls (ByCore Initializes) self.old [] self.new }
+        ensures does { Calls (ByCore (Initializes M.application)) self.old [] self.new }
         ensures id { self.new.id ≡ self.old.id }
     {
         let Some(core) = &mut self.core else {
@@ -188,8 +200,8 @@ impl Machine {
     }
 
     /// Time goes by, in milliseconds.
-    pub fn tick(&mut self, alloc: Global, elapsed: u64, random: u64) -> Done
-        ensures does { Calls (ByCore Ticks) self.old result.outputs.items self.new }
+    pub fn tick(&mut self, alloc: Global, elapsed: u64, random: u64) -> Done<M>
+        ensures does { Calls (ByCore (Ticks M.application)) self.old result.outputs.items self.new }
         ensures id { self.new.id ≡ self.old.id }
     {
         let Some(core) = &mut self.core else {
@@ -250,8 +262,8 @@ impl Machine {
     }
 
     /// The bytes of a frame come.
-    pub fn receive(&mut self, alloc: Global, bytes: &[u8]) -> Done
-        ensures does { Calls (ByCore (Receives bytes.now)) self.old result.outputs.items self.new }
+    pub fn receive(&mut self, alloc: Global, bytes: &[u8]) -> Done<M>
+        ensures does { Calls (ByCore (Receives M.application M.codec bytes.now)) self.old result.outputs.items self.new }
         ensures refused { is_refused result.comes ≡ true → Calls Never self.old result.outputs.items self.new }
         ensures id { self.new.id ≡ self.old.id }
     {
@@ -268,7 +280,7 @@ impl Machine {
     }
 
     /// A frame isn't taken, or the server has stopped on it.
-    fn refuse(&mut self, alloc: Global, error: FrameError) -> Done
+    fn refuse(&mut self, alloc: Global, error: FrameError) -> Done<M>
         ensures { Refuses error self.old result self.new }
     {
         match error {
@@ -286,8 +298,8 @@ impl Machine {
     }
 
     /// The server proposes what waits, and hands out records for the end of its log.
-    pub fn write(&mut self, alloc: Global) -> Result<Done, AllocError>
-        ensures does { IfOk result (λ done. Calls ByWrite self.old done.outputs.items self.new) }
+    pub fn write(&mut self, alloc: Global) -> Result<Done<M>, AllocError>
+        ensures does { IfOk result (λ done. Calls (ByWrite M.application M.codec) self.old done.outputs.items self.new) }
         ensures id { self.new.id ≡ self.old.id }
     {
         let Some(core) = &mut self.core else {
@@ -303,7 +315,7 @@ impl Machine {
     }
 
     /// What was handed out is on its way to the disk.
-    fn hand_out(&mut self, alloc: Global, outputs: Vec<Output>) -> Result<Done, AllocError>
+    fn hand_out(&mut self, alloc: Global, outputs: Vec<Output<M>>) -> Result<Done<M>, AllocError>
         ensures outputs { IfOk result (λ done. done.outputs.items ≡ others_in outputs.items) }
         ensures handed { OnOk result (self.new ≡ with_handed (handed_in outputs.items) self.old) }
         ensures id { self.new.id ≡ self.old.id }
@@ -324,8 +336,8 @@ impl Machine {
     }
 
     /// What was handed out is on disk: what the server says then. If nothing was, it says what waits for nothing on disk.
-    pub fn flush(&mut self, alloc: Global) -> Result<Done, AllocError>
-        ensures does { IfOk result (λ done. Calls ByFlush self.old done.outputs.items self.new) }
+    pub fn flush(&mut self, alloc: Global) -> Result<Done<M>, AllocError>
+        ensures does { IfOk result (λ done. Calls (ByFlush M.application M.codec) self.old done.outputs.items self.new) }
         ensures id { self.new.id ≡ self.old.id }
     {
         let Some(core) = &mut self.core else {
@@ -360,6 +372,44 @@ impl Machine {
         }
     }
 
+    /// The server begins a new log if its log is long, and the new one takes the old one's place on disk.
+    pub fn begin_log(&mut self) -> Comes
+        ensures does { Calls (ByNewLog M.codec) self.old [] self.new }
+        ensures id { self.new.id ≡ self.old.id }
+    {
+        let name = self.log();
+        let Some(core) = &mut self.core else {
+            return Comes::NotOpen;
+        };
+        let Some(log) = core.begin_log(&name) else {
+            return Comes::NoNewLog;
+        };
+        self.disk = log.bytes;
+        self.last = 0;
+        Comes::Replaced {
+            len: self.disk.len(),
+        }
+    }
+
+    /// The server begins a new log if its log is long, and stops before that one has taken the old one's place. What was written of it
+    /// stands in a file of its own, which no start reads.
+    pub fn crash_in_begin_log(&mut self) -> Comes
+        ensures does { Calls Never self.old [] self.new }
+        ensures id { self.new.id ≡ self.old.id }
+    {
+        let name = self.log();
+        let Some(core) = &mut self.core else {
+            return Comes::NotOpen;
+        };
+        let Some(_) = core.begin_log(&name) else {
+            return Comes::NoNewLog;
+        };
+        self.close();
+        Comes::Crashed {
+            len: self.disk.len(),
+        }
+    }
+
     /// The server stops. Of what was handed out so many bytes are on disk.
     pub fn crash(&mut self, bytes: u64) -> Result<Comes, AllocError>
         ensures stops { OnOk result (Stops self.old [] self.new) }
@@ -368,9 +418,8 @@ impl Machine {
         ensures core { OnOk result (self.new.core ≡ None) }
     {
         spill(&self.written, bytes, &mut self.disk)?;
-        self.written = None;
         let was_open = self.core.is_some();
-        self.core = None;
+        self.close();
         if !was_open {
             return Ok(Comes::NotOpen);
         }

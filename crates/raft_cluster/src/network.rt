@@ -6,8 +6,9 @@ ghost use Rattle.raft_cluster.specs.Clusters.{frames_of, sent_at};
 
 use raft_calls::message::Body;
 use raft_command::RequestId;
+use raft_packed::{Machine as StateMachine, Packed};
+use raft_packed_wire::{PackedContent, PackedPacket};
 use raft_state::Items;
-use raft_wire::{Content, Packet, decode};
 use std::alloc::{AllocError, Global};
 
 /// A frame that has left a server.
@@ -43,14 +44,22 @@ fn kind_of(body: &Body) -> &'static str {
     }
 }
 
+/// The kind of what a packet has.
+fn kind_of_content<M: StateMachine>(content: &PackedContent<Packed<M>>) -> &'static str {
+    match content {
+        PackedContent::Message(sent) => kind_of(&sent.message.body),
+        PackedContent::Chunk(_) => "chunk",
+    }
+}
+
 /// The kind of a packet.
-fn kind_of_packet(alloc: Global, bytes: &[u8]) -> &'static str {
-    let found: Result<Packet, _> = decode(alloc, bytes);
-    match found {
-        Ok(packet) => match &packet.content {
-            Content::Message(message) => kind_of(&message.body),
-            Content::Chunk(_) => "chunk",
-        },
+fn kind_of_packet<M: StateMachine>(alloc: Global, bytes: &[u8]) -> &'static str {
+    match PackedPacket::<Packed<M>>::decode(alloc, bytes) {
+        Ok(packet) => {
+            let kind = kind_of_content(&packet.content);
+            drop(packet);
+            kind
+        }
         Err(_) => "unknown",
     }
 }
@@ -66,10 +75,11 @@ fn sent_at(sent: &[Sent], number: u64) -> Option<&Sent>
 }
 
 impl Sent {
-    /// The kind of the frame: that of its message, as schedules have it; or a question or an answer of a pre-vote.
-    pub fn kind(&self, alloc: Global) -> &'static str {
+    /// The kind of the frame: that of its message, as schedules have it; or a question or an answer of a pre-vote. `M` is the servers' state
+    /// machine.
+    pub fn kind<M: StateMachine>(&self, alloc: Global) -> &'static str {
         match self.bytes.as_slice() {
-            [0, rest @ ..] => kind_of_packet(alloc, rest),
+            [0, rest @ ..] => kind_of_packet::<M>(alloc, rest),
             [1, ..] => "pre-vote",
             [2, ..] => "pre-vote-reply",
             _ => "unknown",

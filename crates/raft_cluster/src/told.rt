@@ -5,7 +5,9 @@ ghost use Rattle.raft_cluster.specs.Clients.{answers_told};
 ghost use Rattle.raft_cluster.specs.Clusters.{Notes, acknowledged_at};
 
 use raft_answers::{Answer, Operation, Reply, Token};
-use raft_node::record::{Executed, Installed};
+use raft_node::record::Executed;
+use raft_packed::Machine as StateMachine;
+use raft_packed_wire::raft_packed_node::PackedInstalled;
 use std::alloc::{AllocError, Global};
 
 /// A client's request that a server took.
@@ -28,12 +30,12 @@ pub struct Answered {
 }
 
 /// What clients asked for, and what they were told, each in the order of the run.
-#[derive(Debug, Drop)]
-pub struct Told {
+#[derive(Drop)]
+pub struct Told<M: StateMachine> {
     /// The entries that servers executed at their state machines.
     pub executed: Vec<Executed>,
     /// The snapshots that they put in their place.
-    pub installed: Vec<Installed>,
+    pub installed: Vec<PackedInstalled<M>>,
     pub asked: Vec<Asked>,
     pub answered: Vec<Answered>,
 }
@@ -48,7 +50,7 @@ pub fn acknowledged(answer: &Answer) -> Option<u64>
     }
 }
 
-impl Told {
+impl<M: StateMachine> Told<M> {
     /// Nothing.
     pub fn new(alloc: Global) -> Self
         ensures executed { result.executed.items ≡ [] }

@@ -83,11 +83,14 @@ pub fn draw_head(alloc: Global, dice: &mut Dice) -> Result<String, AllocError> {
     push_setting(dice, "lease", 100, 150, &mut text)?;
     push_setting(dice, "batch", 1, 4, &mut text)?;
     push_setting(dice, "payload", 1, 40, &mut text)?;
+    push_setting(dice, "policy", 1, 30, &mut text)?;
+    push_setting(dice, "keep", 0, 10, &mut text)?;
     push_limit(dice, "spread", 50, 200, &mut text)?;
     push_limit(dice, "heartbeat", 10, 40, &mut text)?;
     push_limit(dice, "patience", 100, 200, &mut text)?;
     push_limit(dice, "timeout", 200, 2000, &mut text)?;
     push_limit(dice, "catch-up", 0, 4, &mut text)?;
+    push_limit(dice, "log", 0, 500, &mut text)?;
     push_limit(dice, "value", 64, 1, &mut text)?;
     push_limit(dice, "waiting", 64, 400, &mut text)?;
     push_limit(dice, "requests", 1, 30, &mut text)?;

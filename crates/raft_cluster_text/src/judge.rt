@@ -1,5 +1,6 @@
 //! Whether what clients were told is true, as far as they can tell: by what they asked for, and what servers executed.
 
+use crate::entries::Entries;
 use raft_answers::{Answer, Operation, Reply, Token};
 use raft_cluster::{Answered, Asked, Told, acknowledged};
 use raft_node::record::Executed;
@@ -48,7 +49,7 @@ struct Fate {
 /// Compares what clients were told with what they asked for, and with what was executed.
 #[derive(Drop)]
 struct Comparison<'a> {
-    told: &'a Told,
+    told: &'a Told<Entries>,
     fates: BTreeMap<u64, Fate>,
     /// Behind so many answers, the greatest index of a write that was acknowledged by then.
     reached: Vec<Option<u64>>,
@@ -63,7 +64,7 @@ fn has_bytes(entry: &Entry, bytes: &[u8]) -> bool {
 }
 
 /// What was asked for, by its token.
-fn fates_of(alloc: Global, told: &Told) -> Result<BTreeMap<u64, Fate>, AllocError> {
+fn fates_of(alloc: Global, told: &Told<Entries>) -> Result<BTreeMap<u64, Fate>, AllocError> {
     let mut fates = BTreeMap::new(alloc);
     for (place, asked) in told.asked.iter().enumerate() {
         let Token(token) = asked.token;
@@ -81,7 +82,7 @@ fn fates_of(alloc: Global, told: &Told) -> Result<BTreeMap<u64, Fate>, AllocErro
 }
 
 impl<'a> Comparison<'a> {
-    fn new(alloc: Global, told: &'a Told) -> Result<Self, AllocError> {
+    fn new(alloc: Global, told: &'a Told<Entries>) -> Result<Self, AllocError> {
         Ok(Comparison {
             told,
             fates: fates_of(alloc, told)?,
@@ -179,7 +180,7 @@ fn has_failed(answer: &Answer) -> bool {
 /// The bytes of writes that have failed, with their tokens.
 fn failed_bytes<'a>(
     alloc: Global,
-    told: &'a Told,
+    told: &'a Told<Entries>,
     fates: &BTreeMap<u64, Fate>,
 ) -> Result<BTreeMap<&'a [u8], Token>, AllocError> {
     let mut failed = BTreeMap::new(alloc);
@@ -217,7 +218,7 @@ fn failed_in_vain(executed: &[Executed], failed: &BTreeMap<&[u8], Token>) -> Opt
 }
 
 /// What is wrong in what clients were told, or nothing.
-pub fn verdict_of(alloc: Global, told: &Told) -> Result<Verdict, AllocError> {
+pub fn verdict_of(alloc: Global, told: &Told<Entries>) -> Result<Verdict, AllocError> {
     let mut comparison = Comparison::new(alloc, told)?;
     for answered in &told.answered {
         let verdict = comparison.judge(answered)?;

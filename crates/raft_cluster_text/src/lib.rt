@@ -5,8 +5,8 @@
 //!
 //! First the head of a schedule of the second language (docs/SCHEDULES.md): `language 2`, nodes, voters, learners and settings. Then
 //! limits of the servers, if others than the usual ones are wanted: `limit NAME N` with `spread`, `heartbeat`, `patience`, `timeout`,
-//! `catch-up`, `value`, `waiting`, `requests`, `batch`, `frame`, `unwritten` or `jump` (in milliseconds, entries, bytes or terms). Then
-//! lines of what happens:
+//! `catch-up`, `log`, `value`, `waiting`, `requests`, `batch`, `frame`, `unwritten` or `jump` (in milliseconds, entries, bytes or terms).
+//! Then lines of what happens:
 //!
 //! | Line | What happens |
 //! |--|--|
@@ -21,6 +21,8 @@
 //! | `deliver K` | the K-th frame that left a server is taken by its addressee: again, late, or never |
 //! | `cut N`, `heal N` | frames from and to server N don't wait any more, or do again: `deliver all` and `run` leave them out |
 //! | `crash N at B` | server N stops; of what was handed out and isn't flushed the first B bytes are on disk |
+//! | `checkpoint N` | server N begins a new log, if all of its log is on disk, and the log is long (`limit log`) |
+//! | `checkpoint N crash` | so it does, and stops before the new log has taken the old one's place: no start reads what was written of it |
 //! | `receive N xHEX` | a stranger's bytes come to server N |
 //! | `corrupt N B` | the lowest bit of byte B of server N's disk is turned |
 //!
@@ -46,12 +48,14 @@
 //!
 //! Unless a byte on a disk is changed by hand (`corrupt`), or a packet that no server sent is taken (`receive`), the verdict on a text is
 //! never `disagree` ([`run_text`]): each line is played by [`Cluster::play`](raft_cluster::Cluster::play), after which the servers follow
-//! the model's, so what clients were told agrees.
+//! the model's, so what clients were told agrees. The servers' state machine keeps each entry ([`Entries`]): so a snapshot that was
+//! installed is compared entry by entry.
 //!
 //! What clients asked and were told is linearizable then, and no acknowledged write is lost (`raft_cluster`). That the verdict finds no
 //! answer that isn't true is tested, and not proved. What is printed is not proved to be what came of the lines.
 #![tactic(auto)]
 
+mod entries;
 mod error;
 mod head;
 mod judge;
@@ -60,6 +64,7 @@ mod print;
 mod random;
 mod run;
 
+pub use entries::Entries;
 pub use error::TextError;
 pub use judge::{Verdict, verdict_of};
 pub use plan::{Plan, read_plan};

@@ -8,7 +8,7 @@ use crate::error::TextError;
 use hex::FromHexError;
 use raft_answers::Operation;
 use raft_cluster::Action;
-use raft_core::Config;
+use raft_cluster::raft_core::Config;
 use raft_node::given::Given;
 use raft_schedule::schedule::{Language, parse_schedule};
 use raft_state::Items;
@@ -131,6 +131,7 @@ fn parse_one(name: &str, number: u64) -> Option<Action> {
         "deliver" => Some(Action::Deliver(number)),
         "cut" => Some(Action::Cut(number)),
         "heal" => Some(Action::Heal(number)),
+        "checkpoint" => Some(Action::Checkpoint(number)),
         "run" => Some(Action::Run(number)),
         _ => None,
     }
@@ -160,6 +161,7 @@ fn parse_numbers(words: &[&str]) -> Option<Action> {
             id: parse_number(id)?,
             bytes: parse_number(bytes)?,
         }),
+        ["checkpoint", id, "crash"] => Some(Action::CrashInCheckpoint(parse_number(id)?)),
         ["tick", id, elapsed, random] => Some(Action::Tick {
             id: parse_number(id)?,
             elapsed: parse_number(elapsed)?,
@@ -242,6 +244,7 @@ fn set(name: &str, number: u64, config: &mut Config) -> bool {
         "patience" => config.patience = number,
         "timeout" => config.request_timeout = number,
         "catch-up" => config.catch_up = number,
+        "log" => config.log_bytes = number,
         _ => return set_limit(name, number, config),
     }
     true

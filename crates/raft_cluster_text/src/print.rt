@@ -1,10 +1,12 @@
 //! What comes of a text, as a text that plays the same way: each action, what comes of it as a comment behind it, and
 //! what leaves then as comments below it.
 
+use crate::entries::Entries;
 use crate::judge::Verdict;
 use raft_answers::{Answer, Token};
+use raft_cluster::raft_packed_node::PackedInstalled;
 use raft_cluster::{Action, Answered, Cluster, Comes, Machine, Sent, Told};
-use raft_node::record::{Executed, Installed};
+use raft_node::record::Executed;
 use raft_state::Membership;
 use raft_store::Payload;
 use raft_world::{Agreement, print_payload};
@@ -20,7 +22,7 @@ pub struct Counts {
 }
 
 /// How much has left a cluster's servers.
-pub fn count(cluster: &Cluster) -> Counts {
+pub fn count(cluster: &Cluster<Entries>) -> Counts {
     let told = cluster.told();
     Counts {
         sent: cluster.network().sent().len(),
@@ -48,14 +50,14 @@ pub fn print_head<W: Write>(text: &str, body: u64, out: &mut W) -> io::Result<()
 }
 
 fn print_sent<W: Write>(
-    cluster: &Cluster,
+    cluster: &Cluster<Entries>,
     number: usize,
     sent: &Sent,
     out: &mut W,
 ) -> io::Result<()> {
     let from = sent.from;
     let to = sent.to;
-    let kind = sent.kind(cluster.allocator());
+    let kind = sent.kind::<Entries>(cluster.allocator());
     writeln!(out, "# frame {number}: {from}>{to} {kind}")
 }
 
@@ -81,9 +83,9 @@ fn print_executed<W: Write>(executed: &Executed, out: &mut W) -> io::Result<()> 
     writeln!(out, "")
 }
 
-fn print_installed<W: Write>(installed: &Installed, out: &mut W) -> io::Result<()> {
+fn print_installed<W: Write>(installed: &PackedInstalled<Entries>, out: &mut W) -> io::Result<()> {
     let node = installed.node;
-    let count = installed.entries.as_slice().len();
+    let count = installed.snapshot.end();
     writeln!(out, "# {node} installs {count} entries")
 }
 
@@ -102,7 +104,11 @@ fn print_answered<W: Write>(answered: &Answered, out: &mut W) -> io::Result<()> 
     }
 }
 
-fn print_all_sent<W: Write>(cluster: &Cluster, before: usize, out: &mut W) -> io::Result<()> {
+fn print_all_sent<W: Write>(
+    cluster: &Cluster<Entries>,
+    before: usize,
+    out: &mut W,
+) -> io::Result<()> {
     let mut number = before;
     for sent in behind(cluster.network().sent(), before) {
         number = number.saturating_add(1);
@@ -113,7 +119,7 @@ fn print_all_sent<W: Write>(cluster: &Cluster, before: usize, out: &mut W) -> io
 
 /// Prints the answers behind the first ones that came before so many entries were executed: how many answers are printed then.
 fn print_answers<W: Write>(
-    told: &Told,
+    told: &Told<Entries>,
     printed: usize,
     executed: usize,
     out: &mut W,
@@ -130,7 +136,11 @@ fn print_answers<W: Write>(
 }
 
 /// Prints what clients are told since then: behind each entry that was executed the answers that it brought.
-fn print_all_told<W: Write>(cluster: &Cluster, before: Counts, out: &mut W) -> io::Result<()> {
+fn print_all_told<W: Write>(
+    cluster: &Cluster<Entries>,
+    before: Counts,
+    out: &mut W,
+) -> io::Result<()> {
     let told = cluster.told();
     for installed in behind(&told.installed, before.installed) {
         print_installed(installed, out)?;
@@ -157,7 +167,7 @@ fn shows_frames(action: &Action) -> bool {
 pub fn print_action<W: Write>(
     action: &Action,
     comes: &Comes,
-    cluster: &Cluster,
+    cluster: &Cluster<Entries>,
     before: Counts,
     out: &mut W,
 ) -> io::Result<()> {
@@ -174,7 +184,7 @@ pub fn print_action<W: Write>(
     }
 }
 
-fn print_machine<W: Write>(machine: &Machine, out: &mut W) -> io::Result<()> {
+fn print_machine<W: Write>(machine: &Machine<Entries>, out: &mut W) -> io::Result<()> {
     let id = machine.id();
     let len = machine.disk_len();
     if machine.is_open() {
@@ -198,7 +208,7 @@ pub fn print_verdict<W: Write>(
 
 /// Prints each server's disk, and whether what clients were told is true.
 pub fn print_end<W: Write>(
-    cluster: &Cluster,
+    cluster: &Cluster<Entries>,
     agreement: Agreement,
     verdict: Verdict,
     out: &mut W,

@@ -1,8 +1,9 @@
 //! Actions at random, so that much happens in a cluster.
 
+use crate::entries::Entries;
 use raft_answers::Operation;
+use raft_cluster::raft_core::RequestError;
 use raft_cluster::{Action, Cluster, Comes, Dice, Machine, value_of};
-use raft_core::RequestError;
 use raft_state::Items;
 use std::alloc::{AllocError, Global};
 
@@ -15,6 +16,7 @@ enum Kind {
     Request,
     Run,
     Crash,
+    Checkpoint,
     Start,
     Net,
     Members,
@@ -30,13 +32,14 @@ struct Weight {
 }
 
 /// How often each kind is drawn on average.
-const WEIGHTS: [(Kind, u64); 11] = [
+const WEIGHTS: [(Kind, u64); 12] = [
     (Kind::Delivery, 80),
     (Kind::Disk, 60),
     (Kind::Tick, 30),
     (Kind::Request, 30),
     (Kind::Run, 12),
     (Kind::Crash, 3),
+    (Kind::Checkpoint, 6),
     (Kind::Start, 8),
     (Kind::Net, 2),
     (Kind::Members, 1),
@@ -96,7 +99,11 @@ pub struct Drawer {
 }
 
 /// The ids of servers that are open, or of those that aren't.
-fn running(alloc: Global, machines: &[Machine], is_open: bool) -> Result<Vec<u64>, AllocError> {
+fn running(
+    alloc: Global,
+    machines: &[Machine<Entries>],
+    is_open: bool,
+) -> Result<Vec<u64>, AllocError> {
     let mut ids = Vec::new(alloc);
     for machine in machines {
         if machine.is_open() == is_open {
@@ -107,7 +114,7 @@ fn running(alloc: Global, machines: &[Machine], is_open: bool) -> Result<Vec<u64
 }
 
 /// The ids of servers that have handed out bytes that aren't on disk.
-fn writing(alloc: Global, machines: &[Machine]) -> Result<Vec<u64>, AllocError> {
+fn writing(alloc: Global, machines: &[Machine<Entries>]) -> Result<Vec<u64>, AllocError> {
     let mut ids = Vec::new(alloc);
     for machine in machines {
         if machine.written_len().is_some() {
@@ -152,7 +159,7 @@ impl Drawer {
     }
 
     /// One of all servers.
-    fn any(&mut self, cluster: &Cluster) -> u64 {
+    fn any(&mut self, cluster: &Cluster<Entries>) -> u64 {
         let place = self.dice.below(cluster.machines().len() as u64) as usize;
         match cluster.machines().get(place) {
             Some(machine) => machine.id(),
@@ -161,7 +168,7 @@ impl Drawer {
     }
 
     /// One of the servers that are open; if none is, any.
-    fn any_open(&mut self, cluster: &Cluster) -> Result<u64, AllocError> {
+    fn any_open(&mut self, cluster: &Cluster<Entries>) -> Result<u64, AllocError> {
         let ids = running(self.alloc, cluster.machines(), true)?;
         if ids.is_empty() {
             return Ok(self.any(cluster));
@@ -191,7 +198,7 @@ impl Drawer {
     }
 
     /// A delivery; before any frame has left, a tick.
-    fn draw_delivery(&mut self, cluster: &Cluster) -> Result<Action, AllocError> {
+    fn draw_delivery(&mut self, cluster: &Cluster<Entries>) -> Result<Action, AllocError> {
         let count = cluster.network().sent().len() as u64;
         if count == 0 {
             return self.draw_tick(cluster);
@@ -204,7 +211,7 @@ impl Drawer {
     }
 
     /// A flush at a server that has handed out bytes, or a write.
-    fn draw_disk(&mut self, cluster: &Cluster) -> Result<Action, AllocError> {
+    fn draw_disk(&mut self, cluster: &Cluster<Entries>) -> Result<Action, AllocError> {
         let ids = writing(self.alloc, cluster.machines())?;
         if ids.is_empty() || self.dice.chance(40) {
             return Ok(Action::Write(self.any_open(cluster)?));
@@ -213,7 +220,7 @@ impl Drawer {
     }
 
     /// Time goes by, mostly little.
-    fn draw_tick(&mut self, cluster: &Cluster) -> Result<Action, AllocError> {
+    fn draw_tick(&mut self, cluster: &Cluster<Entries>) -> Result<Action, AllocError> {
         let elapsed = match self.dice.below(20) {
             0 => self.dice.below(600),
             1..=9 => self.dice.below(60),
@@ -270,7 +277,7 @@ impl Drawer {
     }
 
     /// A request, mostly at the leader that clients know; at times several.
-    fn draw_request(&mut self, cluster: &Cluster) -> Result<Action, AllocError> {
+    fn draw_request(&mut self, cluster: &Cluster<Entries>) -> Result<Action, AllocError> {
         let id = if self.dice.chance(80) {
             self.leader
         } else {
@@ -286,7 +293,7 @@ impl Drawer {
     }
 
     /// A server that stops: mostly one that has handed out bytes, of which any number is on disk then.
-    fn draw_crash(&mut self, cluster: &Cluster) -> Result<Action, AllocError> {
+    fn draw_crash(&mut self, cluster: &Cluster<Entries>) -> Result<Action, AllocError> {
         let ids = writing(self.alloc, cluster.machines())?;
         let id = if ids.is_empty() || self.dice.chance(30) {
             self.any_open(cluster)?
@@ -308,8 +315,24 @@ impl Drawer {
         Ok(Action::Crash { id, bytes })
     }
 
+    /// A new log, mostly once all records are on disk; seldom the server stops then.
+    fn draw_checkpoint(&mut self, cluster: &Cluster<Entries>) -> Result<Action, AllocError> {
+        let id = self.any_open(cluster)?;
+        let action = if self.dice.chance(20) {
+            Action::CrashInCheckpoint(id)
+        } else {
+            Action::Checkpoint(id)
+        };
+        if self.dice.chance(30) {
+            return Ok(action);
+        }
+        self.pending.push(action)?;
+        self.pending.push(Action::Flush(id))?;
+        Ok(Action::Write(id))
+    }
+
     /// The start of a server that isn't open; if all are, a write or a flush.
-    fn draw_start(&mut self, cluster: &Cluster) -> Result<Action, AllocError> {
+    fn draw_start(&mut self, cluster: &Cluster<Entries>) -> Result<Action, AllocError> {
         let ids = running(self.alloc, cluster.machines(), false)?;
         if ids.is_empty() {
             return self.draw_disk(cluster);
@@ -318,7 +341,7 @@ impl Drawer {
     }
 
     /// A server is cut off, or reached again.
-    fn draw_net(&mut self, cluster: &Cluster) -> Action {
+    fn draw_net(&mut self, cluster: &Cluster<Entries>) -> Action {
         let id = self.any(cluster);
         if self.dice.chance(40) {
             Action::Cut(id)
@@ -328,7 +351,11 @@ impl Drawer {
     }
 
     /// Some of all servers, in the order of their ids.
-    fn draw_ids(&mut self, cluster: &Cluster, percent: u64) -> Result<Vec<u64>, AllocError> {
+    fn draw_ids(
+        &mut self,
+        cluster: &Cluster<Entries>,
+        percent: u64,
+    ) -> Result<Vec<u64>, AllocError> {
         let mut ids = Vec::new(self.alloc);
         for machine in cluster.machines() {
             if self.dice.chance(percent) {
@@ -339,7 +366,7 @@ impl Drawer {
     }
 
     /// Other members are wanted.
-    fn draw_members(&mut self, cluster: &Cluster) -> Result<Action, AllocError> {
+    fn draw_members(&mut self, cluster: &Cluster<Entries>) -> Result<Action, AllocError> {
         let mut voters = self.draw_ids(cluster, 70)?;
         if voters.is_empty() {
             voters.push(self.any(cluster))?;
@@ -354,7 +381,7 @@ impl Drawer {
     }
 
     /// A stranger's bytes: a frame that left a server, with some of its bytes changed or cut off, or none of its own.
-    fn draw_bytes(&mut self, cluster: &Cluster) -> Result<Vec<u8>, AllocError> {
+    fn draw_bytes(&mut self, cluster: &Cluster<Entries>) -> Result<Vec<u8>, AllocError> {
         let count = cluster.network().sent().len() as u64;
         let mut bytes = Vec::new(self.alloc);
         let number = self.dice.up_to(count);
@@ -371,7 +398,7 @@ impl Drawer {
     }
 
     /// A stranger's bytes that are no packet.
-    fn draw_stranger(&mut self, cluster: &Cluster) -> Result<Action, AllocError> {
+    fn draw_stranger(&mut self, cluster: &Cluster<Entries>) -> Result<Action, AllocError> {
         let id = self.any_open(cluster)?;
         let mut bytes = self.draw_bytes(cluster)?;
         if let Some(first) = bytes.get_mut(0) {
@@ -385,7 +412,7 @@ impl Drawer {
 
     /// A byte that has flushed bytes behind it, so that its change is told at the next start; if there is none, or no
     /// bytes are to be changed, a write or a flush.
-    fn draw_damage(&mut self, cluster: &Cluster) -> Result<Action, AllocError> {
+    fn draw_damage(&mut self, cluster: &Cluster<Entries>) -> Result<Action, AllocError> {
         let id = self.any(cluster);
         let bound = match cluster.machine(id) {
             Some(machine) => machine.last() as u64,
@@ -403,7 +430,7 @@ impl Drawer {
     }
 
     /// All servers start, and the first is initialized.
-    fn draw_first(&mut self, cluster: &Cluster) -> Action {
+    fn draw_first(&mut self, cluster: &Cluster<Entries>) -> Action {
         match cluster.machines().get(self.drawn as usize) {
             Some(machine) => Action::Start(machine.id()),
             None => Action::Init(1),
@@ -426,7 +453,7 @@ impl Drawer {
         Kind::Delivery
     }
 
-    fn draw_later(&mut self, cluster: &Cluster) -> Result<Action, AllocError> {
+    fn draw_later(&mut self, cluster: &Cluster<Entries>) -> Result<Action, AllocError> {
         match self.draw_kind() {
             Kind::Delivery => self.draw_delivery(cluster),
             Kind::Disk => self.draw_disk(cluster),
@@ -434,6 +461,7 @@ impl Drawer {
             Kind::Request => self.draw_request(cluster),
             Kind::Run => Ok(Action::Run(10)),
             Kind::Crash => self.draw_crash(cluster),
+            Kind::Checkpoint => self.draw_checkpoint(cluster),
             Kind::Start => self.draw_start(cluster),
             Kind::Net => Ok(self.draw_net(cluster)),
             Kind::Members => self.draw_members(cluster),
@@ -443,7 +471,7 @@ impl Drawer {
     }
 
     /// Behind an action a server writes and flushes, maybe.
-    fn follow(&mut self, cluster: &Cluster) -> Result<(), AllocError> {
+    fn follow(&mut self, cluster: &Cluster<Entries>) -> Result<(), AllocError> {
         if !self.dice.chance(self.eager) {
             return Ok(());
         }
@@ -453,7 +481,7 @@ impl Drawer {
         Ok(())
     }
 
-    fn draw_new(&mut self, cluster: &Cluster) -> Result<Action, AllocError> {
+    fn draw_new(&mut self, cluster: &Cluster<Entries>) -> Result<Action, AllocError> {
         let action = if self.drawn > cluster.machines().len() as u64 {
             self.follow(cluster)?;
             self.draw_later(cluster)?
@@ -465,7 +493,7 @@ impl Drawer {
     }
 
     /// The next action.
-    pub fn draw(&mut self, cluster: &Cluster) -> Result<Action, AllocError> {
+    pub fn draw(&mut self, cluster: &Cluster<Entries>) -> Result<Action, AllocError> {
         match self.pending.pop() {
             Some(action) => Ok(action),
             None => self.draw_new(cluster),
@@ -485,7 +513,7 @@ impl Drawer {
     }
 
     /// What ends a run: all servers start and reach one another, and one is asked.
-    pub fn last(&mut self, cluster: &Cluster) -> Result<Vec<Action>, AllocError> {
+    pub fn last(&mut self, cluster: &Cluster<Entries>) -> Result<Vec<Action>, AllocError> {
         let mut actions = Vec::new(self.alloc);
         for machine in cluster.machines() {
             actions.push(Action::Heal(machine.id()))?;

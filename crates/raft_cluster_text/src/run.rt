@@ -1,11 +1,12 @@
 //! Whole texts, from a reader to two writers.
 
-ghost use Rattle.std.specs.Prelude.{IfOk, OnOk};
-ghost use Rattle.raft_cluster.specs.Clusters.{Holds};
+ghost use Rattle.std.specs.Prelude.{◌≡◌, IfOk, OnOk};
 ghost use Rattle.raft_node.specs.Safety.{entries_of};
 ghost use Rattle.raft_world.specs.Agreed.{Checks};
+ghost use Rattle.raft_cluster_text.specs.Entries.{HoldsAt, installed_told};
 ghost use Rattle.raft_cluster_text.specs.Laws.{AgreesUndamaged};
 
+use crate::entries::Entries;
 use crate::error::TextError;
 use crate::head::draw_head;
 use crate::judge::{Verdict, verdict_of};
@@ -13,10 +14,11 @@ use crate::plan::{Plan, parse_number, read_plan, split_words};
 use crate::print::{count, print_action, print_end, print_head, print_verdict};
 use crate::random::Drawer;
 use raft_cluster::{Action, Cluster, Comes, Dice, Told, acknowledged};
+use raft_node::record::Installed;
 use raft_state::LeaderId;
 use raft_store::Payload;
 use raft_world::{Agreement, Tracked, check_entries, read_bytes, write_text};
-use std::alloc::Global;
+use std::alloc::{AllocError, Global};
 use std::io::{Read, Write};
 
 /// What is shown of actions at random.
@@ -72,8 +74,12 @@ pub struct Played {
 }
 
 /// Plays an action, and prints what comes of it.
-fn play(cluster: &mut Cluster, action: &Action, out: &mut Vec<u8>) -> Result<Comes, TextError>
-    ensures { OnOk result (Holds cluster.old → Holds cluster.new) }
+fn play(
+    cluster: &mut Cluster<Entries>,
+    action: &Action,
+    out: &mut Vec<u8>,
+) -> Result<Comes, TextError>
+    ensures { OnOk result (HoldsAt cluster.old → HoldsAt cluster.new) }
 {
     let before = count(cluster);
     let comes = cluster.play(action)?;
@@ -81,18 +87,34 @@ fn play(cluster: &mut Cluster, action: &Action, out: &mut Vec<u8>) -> Result<Com
     Ok(comes)
 }
 
+/// The snapshots that servers installed, as the entries that they are of.
+fn installed_of(alloc: Global, told: &Told<Entries>) -> Result<Vec<Installed>, AllocError>
+    ensures { IfOk result (λ installed. installed.items ≡ installed_told told.now) }
+{
+    let mut all = Vec::with_capacity(alloc, told.installed.len())?;
+    for installed in &told.installed {
+        let entries = installed.snapshot.state().copy_entries()?;
+        all.push(Installed {
+            node: installed.node,
+            entries,
+        })?;
+    }
+    Ok(all)
+}
+
 /// Whether all entries agree that clients were told of.
-fn agreement_of(cluster: &Cluster) -> Result<Agreement, TextError>
-    ensures { IfOk result (λ agreement. Checks (entries_of cluster.now.told.executed.items cluster.now.told.installed.items) agreement) }
+fn agreement_of(cluster: &Cluster<Entries>) -> Result<Agreement, TextError>
+    ensures { IfOk result (λ agreement. Checks (entries_of cluster.now.told.executed.items (installed_told cluster.now.told)) agreement) }
 {
     let told = cluster.told();
-    Ok(check_entries(cluster.allocator(), &told.executed, &told.installed)?)
+    let installed = installed_of(cluster.allocator(), told)?;
+    Ok(check_entries(cluster.allocator(), &told.executed, &installed)?)
 }
 
 /// Whether what clients were told is true.
-fn check(cluster: &Cluster) -> Result<Played, TextError>
-    ensures checks { IfOk result (λ played. Checks (entries_of cluster.now.told.executed.items cluster.now.told.installed.items) played.agreement) }
-    ensures agrees { IfOk result (λ played. Holds cluster.now → AgreesUndamaged played) }
+fn check(cluster: &Cluster<Entries>) -> Result<Played, TextError>
+    ensures checks { IfOk result (λ played. Checks (entries_of cluster.now.told.executed.items (installed_told cluster.now.told)) played.agreement) }
+    ensures agrees { IfOk result (λ played. HoldsAt cluster.now → AgreesUndamaged played) }
 {
     let agreement = agreement_of(cluster)?;
     let verdict = verdict_of(cluster.allocator(), cluster.told())?;
@@ -104,8 +126,8 @@ fn check(cluster: &Cluster) -> Result<Played, TextError>
 }
 
 /// Prints what a cluster comes to, and whether what was told is true.
-fn end(cluster: &Cluster, out: &mut Vec<u8>) -> Result<Played, TextError>
-    ensures { IfOk result (λ played. Holds cluster.now → AgreesUndamaged played) }
+fn end(cluster: &Cluster<Entries>, out: &mut Vec<u8>) -> Result<Played, TextError>
+    ensures { IfOk result (λ played. HoldsAt cluster.now → AgreesUndamaged played) }
 {
     let played = check(cluster)?;
     print_end(cluster, played.agreement, played.verdict, out)?;
@@ -113,8 +135,12 @@ fn end(cluster: &Cluster, out: &mut Vec<u8>) -> Result<Played, TextError>
 }
 
 /// Plays actions.
-fn play_all(cluster: &mut Cluster, actions: &[Action], out: &mut Vec<u8>) -> Result<(), TextError>
-    ensures { OnOk result (Holds cluster.old → Holds cluster.new) }
+fn play_all(
+    cluster: &mut Cluster<Entries>,
+    actions: &[Action],
+    out: &mut Vec<u8>,
+) -> Result<(), TextError>
+    ensures { OnOk result (HoldsAt cluster.old → HoldsAt cluster.new) }
 {
     'actions: for action in actions {
         play(cluster, action, out)?;
@@ -134,12 +160,12 @@ fn run_plan(alloc: Global, text: &str, plan: Plan, out: &mut Vec<u8>) -> Result<
 
 /// Draws so many actions, and plays each.
 fn play_drawn(
-    cluster: &mut Cluster,
+    cluster: &mut Cluster<Entries>,
     drawer: &mut Drawer,
     count: u64,
     out: &mut Vec<u8>,
 ) -> Result<(), TextError>
-    ensures { OnOk result (Holds cluster.old → Holds cluster.new) }
+    ensures { OnOk result (HoldsAt cluster.old → HoldsAt cluster.new) }
 {
     'draws: for _ in 0..count {
         let action = drawer.draw(cluster)?;
@@ -176,7 +202,7 @@ struct Totals {
 }
 
 /// How many leaders were elected: each executes an entry of its own without a value.
-fn count_elections(alloc: Global, told: &Told) -> Result<u64, TextError> {
+fn count_elections(alloc: Global, told: &Told<Entries>) -> Result<u64, TextError> {
     let mut leaders: Vec<LeaderId<u64>> = Vec::new(alloc);
     for executed in &told.executed {
         if let Payload::Blank = executed.entry.payload {
@@ -190,7 +216,7 @@ fn count_elections(alloc: Global, told: &Told) -> Result<u64, TextError> {
 }
 
 /// How many answers acknowledge a request, from this one on.
-fn count_acknowledged(told: &Told, first: usize) -> u64 {
+fn count_acknowledged(told: &Told<Entries>, first: usize) -> u64 {
     let mut count = 0u64;
     for answered in told.answered.get(first..).unwrap_or(&[]) {
         if acknowledged(&answered.reply.answer).is_some() {
@@ -201,8 +227,12 @@ fn count_acknowledged(told: &Told, first: usize) -> u64 {
 }
 
 /// Plays actions at random, which aren't printed. How many answers clients had before the last ones.
-fn play_quietly(cluster: &mut Cluster, drawer: &mut Drawer, count: u64) -> Result<usize, TextError>
-    ensures { OnOk result (Holds cluster.old → Holds cluster.new) }
+fn play_quietly(
+    cluster: &mut Cluster<Entries>,
+    drawer: &mut Drawer,
+    count: u64,
+) -> Result<usize, TextError>
+    ensures { OnOk result (HoldsAt cluster.old → HoldsAt cluster.new) }
 {
     'draws: for _ in 0..count {
         let action = drawer.draw(cluster)?;
@@ -218,7 +248,7 @@ fn play_quietly(cluster: &mut Cluster, drawer: &mut Drawer, count: u64) -> Resul
 }
 
 /// What a run adds to the totals.
-fn add_to(alloc: Global, told: &Told, totals: &mut Totals) -> Result<(), TextError> {
+fn add_to(alloc: Global, told: &Told<Entries>, totals: &mut Totals) -> Result<(), TextError> {
     let elections = count_elections(alloc, told)?;
     totals.elections = totals.elections.saturating_add(elections);
     totals.acknowledged = totals

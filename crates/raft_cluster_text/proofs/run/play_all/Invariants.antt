@@ -1,5 +1,5 @@
-use Rattle.raft_cluster.specs.Clusters.{Holds}
+use Rattle.raft_cluster_text.specs.Entries.{HoldsAt}
 use Rattle.raft_cluster_text.proofs.run.play_all.Given as goal
 
 abbrev pub invariant-actions : goal.invariant-actions
-invariant-actions l = Holds l.fn.cluster → Holds l.cluster
+invariant-actions l = HoldsAt l.fn.cluster → HoldsAt l.cluster

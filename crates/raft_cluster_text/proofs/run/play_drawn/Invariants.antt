@@ -1,5 +1,5 @@
-use Rattle.raft_cluster.specs.Clusters.{Holds}
+use Rattle.raft_cluster_text.specs.Entries.{HoldsAt}
 use Rattle.raft_cluster_text.proofs.run.play_drawn.Given as goal
 
 abbrev pub invariant-draws : goal.invariant-draws
-invariant-draws l = Holds l.fn.cluster → Holds l.cluster
+invariant-draws l = HoldsAt l.fn.cluster → HoldsAt l.cluster

@@ -1,14 +1,14 @@
-use Rattle.std.proofs.Common.{List, Some, ap, arith, refl, sym, ◌≡◌, ◌∙◌}
+use Rattle.std.proofs.Common.{List, ap, arith, refl, sym, ◌∙◌}
 use Rattle.raft_cluster.specs.declared.machine.Machine.{Machine}
 use Rattle.raft_cluster.specs.Clusters.{place_of}
 use Rattle.raft_cluster.proofs.Clusters.{corrupt_holds, place_within}
 use Rattle.raft_cluster.proofs.cluster.Cluster.corrupt.Goals as goal
 
 pub index_mut-requires : goal.index_mut-requires
-index_mut-requires c = omega (arith, place_within c.args.id c.deref.result.now c.in-Some.place (sym c.place_of.ensures ∙ c.in-Some.is), c.deref.ensures.len)
+index_mut-requires g c = omega (arith, place_within c.args.id c.deref.result.now c.in-Some.place (sym c.place_of.ensures ∙ c.in-Some.is), c.deref.ensures.len)
 
 pub returns : goal.returns
-returns c = λ h.
-    corrupt_holds c.args.self.now c.args.id c.in-Some.place c.index_mut.result.now c.corrupt.new.self
-    (ap (λ (ms : List Machine). place_of ms c.args.id) (sym c.deref.ensures.value) ∙ (sym c.place_of.ensures ∙ c.in-Some.is))
-    c.index_mut.ensures.value h _ refl (ap (λ (m : Machine). m.core) c.corrupt.ensures) refl refl
+returns g c = λ h.
+    corrupt_holds g.M.Machine.application g.M.Machine.codec c.args.self.now c.args.id c.in-Some.place c.index_mut.result.now c.corrupt.new.self
+    (ap (λ (ms : List (Machine g.row.M.Denot)). place_of ms c.args.id) (sym c.deref.ensures.value) ∙ (sym c.place_of.ensures ∙ c.in-Some.is))
+    c.index_mut.ensures.value h _ refl (ap (λ (m : Machine g.row.M.Denot). m.core) c.corrupt.ensures) refl refl

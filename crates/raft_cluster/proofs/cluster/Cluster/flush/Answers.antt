@@ -7,11 +7,11 @@ use Rattle.raft_cluster.proofs.Clusters.{place_within, flush_holds}
 use Rattle.raft_cluster.proofs.cluster.Cluster.flush.Goals as goal
 
 pub index_mut-requires : goal.index_mut-requires
-index_mut-requires c = omega (arith, place_within c.args.id c.deref.result.now c.in-Some.place (sym c.place_of.ensures ∙ c.in-Some.is), c.deref.ensures.len)
+index_mut-requires g c = omega (arith, place_within c.args.id c.deref.result.now c.in-Some.place (sym c.place_of.ensures ∙ c.in-Some.is), c.deref.ensures.len)
 
 pub returns : goal.returns
-returns c =
+returns g c =
     on_ok_weaker c.finish.result (λ (leaves : Leaves c.args.id c.in_ok-done.done.outputs.items c.args.self.now.network c.args.self.now.told c.finish.new.network c.finish.new.told). λ h.
-    flush_holds c.args.self.now _ c.args.id c.in-Some.place c.index_mut.result.now c.flush.new.self
-    (ap (λ (ms : List Machine). place_of ms c.args.id) (sym c.deref.ensures.value) ∙ (sym c.place_of.ensures ∙ c.in-Some.is))
+    flush_holds g.M.Machine.application g.M.Machine.codec g.met.M.Machine.is_codec c.args.self.now _ c.args.id c.in-Some.place c.index_mut.result.now c.flush.new.self
+    (ap (λ (ms : List (Machine g.row.M.Denot)). place_of ms c.args.id) (sym c.deref.ensures.value) ∙ (sym c.place_of.ensures ∙ c.in-Some.is))
     c.index_mut.ensures.value refl refl c.flush.ensures.id h c.in_ok-done.done.outputs.items refl c.in_ok-done.ensures.does leaves) c.finish.ensures

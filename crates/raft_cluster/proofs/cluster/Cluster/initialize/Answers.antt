@@ -5,10 +5,10 @@ use Rattle.raft_cluster.proofs.Clusters.{place_within, initialize_holds}
 use Rattle.raft_cluster.proofs.cluster.Cluster.initialize.Goals as goal
 
 pub index_mut-requires : goal.index_mut-requires
-index_mut-requires c = omega (arith, place_within c.args.id c.deref.result.now c.in-Some.place (sym c.place_of.ensures ∙ c.in-Some.is), c.deref.ensures.len)
+index_mut-requires g c = omega (arith, place_within c.args.id c.deref.result.now c.in-Some.place (sym c.place_of.ensures ∙ c.in-Some.is), c.deref.ensures.len)
 
 pub returns : goal.returns
-returns c = λ h.
-    initialize_holds c.args.self.now _ c.args.id c.in-Some.place c.index_mut.result.now c.initialize.new.self
-    (ap (λ (ms : List Machine). place_of ms c.args.id) (sym c.deref.ensures.value) ∙ (sym c.place_of.ensures ∙ c.in-Some.is))
+returns g c = λ h.
+    initialize_holds g.M.Machine.application g.M.Machine.codec g.met.M.Machine.is_codec c.args.self.now _ c.args.id c.in-Some.place c.index_mut.result.now c.initialize.new.self
+    (ap (λ (ms : List (Machine g.row.M.Denot)). place_of ms c.args.id) (sym c.deref.ensures.value) ∙ (sym c.place_of.ensures ∙ c.in-Some.is))
     c.index_mut.ensures.value refl refl c.initialize.ensures.id h refl refl refl c.initialize.ensures.does

@@ -2,4 +2,4 @@ use Rattle.raft_cluster.specs.Clusters.{Holds}
 use Rattle.raft_cluster.proofs.cluster.Cluster.load.Given as goal
 
 abbrev pub invariant-rounds : goal.invariant-rounds
-invariant-rounds l = Holds l.fn.self → Holds l.self
+invariant-rounds g l = Holds g.M.Machine.application g.M.Machine.codec l.fn.self → Holds g.M.Machine.application g.M.Machine.codec l.self

@@ -1,11 +1,13 @@
+use Rattle.raft_codec.specs.Codec.{Codec}
+use Rattle.proof_packed.specs.Stores.{Application}
 use Rattle.raft_cluster.specs.declared.cluster.Cluster.{Cluster}
 use Rattle.raft_cluster.specs.declared.dice.Dice.{Dice}
 use Rattle.raft_cluster.specs.Clusters.{Holds}
 use Rattle.raft_cluster.proofs.cluster.Cluster.run_step.Goals as goal
 
 -- what holds of a cluster says nothing of its dice
-dice_drawn : (c : Cluster) (dice : Dice) → Holds c → Holds (record c { dice = dice })
-dice_drawn c dice h = record {
+dice_drawn : {S : Type 0} (app : Application S) (codec : Codec S) (c : Cluster S) (dice : Dice) → Holds app codec c → Holds app codec (record c { dice = dice })
+dice_drawn app codec c dice h = record {
   follows = λ e. let f = h.follows e in record {
     given = f.given;
     actions = f.actions;
@@ -23,4 +25,4 @@ dice_drawn c dice h = record {
 }
 
 pub ticks-preserved : goal.ticks-preserved
-ticks-preserved c = λ h. c.in_ok-tick.ensures (dice_drawn c.ticks.self _ (c.ticks.invariant h))
+ticks-preserved g c = λ h. c.in_ok-tick.ensures (dice_drawn g.M.Machine.application g.M.Machine.codec c.ticks.self _ (c.ticks.invariant h))

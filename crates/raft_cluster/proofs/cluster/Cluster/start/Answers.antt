@@ -5,11 +5,11 @@ use Rattle.raft_cluster.proofs.Clusters.{place_within, start_holds}
 use Rattle.raft_cluster.proofs.cluster.Cluster.start.Goals as goal
 
 pub index_mut-requires : goal.index_mut-requires
-index_mut-requires c = omega (arith, place_within c.args.id c.deref.result.now c.in-Some.place (sym c.place_of.ensures ∙ c.in-Some.is), c.deref.ensures.len)
+index_mut-requires g c = omega (arith, place_within c.args.id c.deref.result.now c.in-Some.place (sym c.place_of.ensures ∙ c.in-Some.is), c.deref.ensures.len)
 
 pub returns : goal.returns
-returns c = λ h.
-    start_holds c.args.self.now _ c.args.id c.in-Some.place c.index_mut.result.now c.start.new.self
-    (ap (λ (ms : List Machine). place_of ms c.args.id) (sym c.deref.ensures.value) ∙ (sym c.place_of.ensures ∙ c.in-Some.is))
+returns g c = λ h.
+    start_holds g.M.Machine.application g.M.Machine.codec g.met.M.Machine.is_codec c.args.self.now _ c.args.id c.in-Some.place c.index_mut.result.now c.start.new.self
+    (ap (λ (ms : List (Machine g.row.M.Denot)). place_of ms c.args.id) (sym c.deref.ensures.value) ∙ (sym c.place_of.ensures ∙ c.in-Some.is))
     c.index_mut.ensures.value refl refl c.start.ensures.id h
     c.in_ok-given.given c.start.result refl refl refl c.in_ok-given.ensures c.start.ensures.starts

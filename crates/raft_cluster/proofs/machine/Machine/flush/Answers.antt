@@ -10,8 +10,8 @@ use Rattle.raft_cluster.proofs.machine.Machine.flush.Goals as goal
 
 -- nothing was on its way
 pub returns-in-Ok-clause-does : goal.returns-in-Ok-clause-does
-returns-in-Ok-clause-does c =
-    let m : Machine = c.args.self.now in
+returns-in-Ok-clause-does g c =
+    let m : Machine g.row.M.Denot = c.args.self.now in
     let none : m.written ≡ None = search rules in
     inr (inr (record {
       core = c.in-Some.core;
@@ -27,7 +27,7 @@ returns-in-Ok-clause-does c =
     }))
 
 pub returns-in-Ok-flushed-clause-does : goal.returns-in-Ok-flushed-clause-does
-returns-in-Ok-flushed-clause-does c =
+returns-in-Ok-flushed-clause-does g c =
     let way : c.args.self.now.written ≡ Some c.in-Some-take.written = search rules in
     inr (inr (record {
       core = c.in-Some.core;
@@ -43,7 +43,7 @@ returns-in-Ok-flushed-clause-does c =
     }))
 
 pub returns-clause-does : goal.returns-clause-does
-returns-clause-does c =
+returns-clause-does g c =
     let e = c.close-in-Err-flushed.ensures in
-    stops_flushed ByFlush c.args.self.now c.close-in-Err-flushed.new.self c.in-Some-take.written _ c.quiet-in-Err-flushed.ensures.outputs (search rules)
-    (ap (λ (x : Machine). x.id) e) (ap (λ (x : Machine). x.core) e) (ap (λ (x : Machine). x.written) e) (ap (λ (x : Machine). x.disk.items) e ∙ search rules)
+    stops_flushed (ByFlush g.M.Machine.application g.M.Machine.codec) c.args.self.now c.close-in-Err-flushed.new.self c.in-Some-take.written _ c.quiet-in-Err-flushed.ensures.outputs (search rules)
+    (ap (λ (x : Machine g.row.M.Denot). x.id) e) (ap (λ (x : Machine g.row.M.Denot). x.core) e) (ap (λ (x : Machine g.row.M.Denot). x.written) e) (ap (λ (x : Machine g.row.M.Denot). x.disk.items) e ∙ search rules)

@@ -5,11 +5,11 @@ use Rattle.raft_cluster.proofs.Cores.{stops_by}
 use Rattle.raft_cluster.proofs.machine.Machine.initialize.Goals as goal
 
 pub returns-in-Ok-clause-does : goal.returns-in-Ok-clause-does
-returns-in-Ok-clause-does c =
+returns-in-Ok-clause-does g c =
     inr (inr (record { core = c.in-Some.core; is_open = c.in-Some.is; next = c.initialize.new.self; does = (refl, c.in-Ok.ensures); becomes = refl }))
 
 pub returns-in-Err-clause-does : goal.returns-in-Err-clause-does
-returns-in-Err-clause-does c = stops_by (ByCore Initializes) c.args.self.now c.close.new.self [] c.close.ensures refl
+returns-in-Err-clause-does g c = stops_by (ByCore (Initializes g.M.Machine.application)) c.args.self.now c.close.new.self [] c.close.ensures refl
 
 pub returns-in_default-clause-does : goal.returns-in_default-clause-does
-returns-in_default-clause-does c = inl (refl, refl)
+returns-in_default-clause-does g c = inl (refl, refl)
