@@ -16,12 +16,13 @@ use Rattle.raft_connection.specs.declared.session.Work.{Work}
 use Rattle.raft_connection.specs.declared.session.Work.TheVariants as work
 use Rattle.raft_core.specs.Laws.{AnswersOnce, AnswersReads, ClientsAreAnsweredOnce, ReadsAreAnsweredOnce, read_replies_of, replies_of}
 use Rattle.raft_core.specs.Reads.{ReadsView, read_tokens}
-use Rattle.raft_core.specs.Views.{CoreView}
-use Rattle.raft_core.specs.declared.output.Output as core_output
 use Rattle.raft_core.specs.declared.output.Output.TheVariants as core
 use Rattle.raft_core.specs.Calls.{Receives, Releases, Ticks, Writes}
 use Rattle.raft_core.specs.declared.reads.Reader.{Reader}
+use Rattle.raft_executor.specs.KeyValue.{application}
+use Rattle.raft_machine.specs.Bytes.{state}
 use Rattle.raft_service.specs.Calls.{Calls, at_moment, with_core}
+use Rattle.raft_service.specs.Core.{Core, CoreOutput}
 use Rattle.raft_service.specs.Delivering.{AnswersIf, DeliversAll}
 use Rattle.raft_service.specs.Intake.{Admitted, AdmitsBy, AsksRound, EntersLog, TakesFirstOf, goes_by_round, question_of}
 use Rattle.raft_service.specs.Plans.{planned}
@@ -57,11 +58,11 @@ abbrev token_told : Reply → Token
 token_told r = r.token
 
 -- what leaves answers the first questions, of those in the log and of those by rounds
-pub record Awaits (out : List core_output.Output) (requests reads : List Token) (s : Intake) : Type 0 where
+pub record Awaits (out : List CoreOutput) (requests reads : List Token) (s : Intake) : Type 0 where
   pub logged : tokens_in s.waiting.items ≡ map token_told (replies_of out) ++ requests
   pub read : tokens_in s.reading.items ≡ map token_told (read_replies_of out) ++ reads
 
-awaits_same : (out : List core_output.Output) (requests reads : List Token) (s t : Intake) → t ≡ s → Awaits out requests reads s
+awaits_same : (out : List CoreOutput) (requests reads : List Token) (s t : Intake) → t ≡ s → Awaits out requests reads s
     → Awaits out requests reads t
 awaits_same out requests reads s t same h = record {
   logged = ap (λ (i : Intake). tokens_in i.waiting.items) same ∙ h.logged;
@@ -69,7 +70,7 @@ awaits_same out requests reads s t same h = record {
 }
 
 -- one output less, which is no reply
-awaits_next : (o : core_output.Output) (os : List core_output.Output) (requests reads : List Token) (s : Intake)
+awaits_next : (o : CoreOutput) (os : List CoreOutput) (requests reads : List Token) (s : Intake)
     → replies_of (o ∷ os) ≡ replies_of os → read_replies_of (o ∷ os) ≡ read_replies_of os → Awaits (o ∷ os) requests reads s
     → Awaits os requests reads s
 awaits_next o os requests reads s e f h = record {
@@ -88,12 +89,12 @@ through : (requests reads : List Token) (old middle new : Intake) → middle.cor
 through requests reads old middle new same h = record { logged = h.logged; read = h.read; core = h.core ∙ same }
 
 -- an output that changes no question
-passed : (o : core_output.Output) (os : List core_output.Output) (requests reads : List Token) (s t : Intake)
+passed : (o : CoreOutput) (os : List CoreOutput) (requests reads : List Token) (s t : Intake)
     → replies_of (o ∷ os) ≡ replies_of os → read_replies_of (o ∷ os) ≡ read_replies_of os → t ≡ s → Awaits (o ∷ os) requests reads s
     → Awaits os requests reads t
 passed o os requests reads s t e f same h = awaits_same os requests reads s t same (awaits_next o os requests reads s e f h)
 
-pub delivered : (out : List core_output.Output) (old new : Service) (before after : List Output) (requests reads : List Token)
+pub delivered : (out : List CoreOutput) (old new : Service) (before after : List Output) (requests reads : List Token)
     → DeliversAll out old before new after → Awaits out requests reads old.intake → Answers requests reads old.intake new.intake
 delivered [] old new before after requests reads h e =
     let same : new.intake ≡ old.intake = ap (λ (s : Service). s.intake) h.0 in
@@ -148,21 +149,21 @@ entered operation q old new h e =
           ∙ ap (λ (ts : List Token). ts ++ q.token ∷ []) e.requests
           ∙ append_assoc proposed (map (λ (x : Request). x.token) old.core.requests.waiting) (q.token ∷ [])
           ∙ ap (λ (ts : List Token). proposed ++ ts) (sym (map-append (λ (x : Request). x.token) old.core.requests.waiting (r ∷ [])))
-          ∙ ap (λ (v : CoreView). tokens_of v.requests) (sym h.admits);
-      reads = ap (λ (i : Intake). tokens_in i.reading.items) h.rest ∙ e.reads ∙ ap (λ (v : CoreView). read_tokens v.reads) (sym h.admits);
+          ∙ ap (λ (v : Core). tokens_of v.requests) (sym h.admits);
+      reads = ap (λ (i : Intake). tokens_in i.reading.items) h.rest ∙ e.reads ∙ ap (λ (v : Core). read_tokens v.reads) (sym h.admits);
     }
 
 asked_round : (q : Question) (old new : Intake) → AsksRound q old new → IsAligned old → IsAligned new
 asked_round q old new h e =
     let r : Reader = record { token = q.token; since = old.core.clock } in
     record {
-      requests = ap (λ (i : Intake). tokens_in i.waiting.items) h.rest ∙ e.requests ∙ ap (λ (v : CoreView). tokens_of v.requests) (sym h.admits);
+      requests = ap (λ (i : Intake). tokens_in i.waiting.items) h.rest ∙ e.requests ∙ ap (λ (v : Core). tokens_of v.requests) (sym h.admits);
       reads =
           ap (map token_of) h.waits
           ∙ map-append token_of old.reading.items (q ∷ [])
           ∙ ap (λ (ts : List Token). ts ++ q.token ∷ []) e.reads
           ∙ sym (map-append (λ (x : Reader). x.token) old.core.reads.readers (r ∷ []))
-          ∙ ap (λ (v : CoreView). read_tokens v.reads) (sym h.admits);
+          ∙ ap (λ (v : Core). read_tokens v.reads) (sym h.admits);
     }
 
 by_way : (way : Way) (q : Question) (old new : Intake) → AdmitsBy way q old new → IsAligned old → IsAligned new
@@ -204,13 +205,13 @@ served_all : (cs : List ℕ) (old new : Clients) (i j : Intake) (before after : 
 served_all [] old new i j before after h e = kept i j h.1 e
 served_all (c ∷ cs) old new i j before after h e = served_all cs h.0 new h.1 j h.2 after h.4 (served c old h.0 i h.1 before h.2 h.3 e)
 
-called : (R : CoreView → List core_output.Output → CoreView → Type 0)
-    → (ClientsAreAnsweredOnce → (a b : CoreView) (out : List core_output.Output) → R a out b → AnswersOnce a out b)
-    → (ReadsAreAnsweredOnce → (a b : CoreView) (out : List core_output.Output) → R a out b → AnswersReads a out b)
+called : (R : Core → List CoreOutput → Core → Type 0)
+    → (ClientsAreAnsweredOnce application state → (a b : Core) (out : List CoreOutput) → R a out b → AnswersOnce a out b)
+    → (ReadsAreAnsweredOnce application state → (a b : Core) (out : List CoreOutput) → R a out b → AnswersReads a out b)
     → (old new : Service) (outputs : List Output) → Calls R old new outputs → KeepsAligned old new
 called R once reads_once old new outputs h clients reads e =
     let m = h.handles in
-    let v : CoreView = h.server in
+    let v : Core = h.server in
     let awaits : Awaits h.out (tokens_of v.requests) (read_tokens v.reads) (with_core old v).intake = record {
       logged = e.requests ∙ once clients old.intake.core v h.out h.called;
       read = e.reads ∙ reads_once reads old.intake.core v h.out h.called;
@@ -218,8 +219,8 @@ called R once reads_once old new outputs h clients reads e =
     let d = delivered h.out (with_core old v) m.middle [] m.so_far (tokens_of v.requests) (read_tokens v.reads) m.delivers awaits in
     served_all m.finishes.answered m.middle.clients new.clients (at_moment m.middle).intake new.intake m.so_far outputs m.finishes.serves
     (record {
-      requests = d.logged ∙ ap (λ (u : CoreView). tokens_of u.requests) (sym d.core);
-      reads = d.read ∙ ap (λ (u : CoreView). read_tokens u.reads) (sym d.core);
+      requests = d.logged ∙ ap (λ (u : Core). tokens_of u.requests) (sym d.core);
+      reads = d.read ∙ ap (λ (u : Core). read_tokens u.reads) (sym d.core);
     })
 
 pub questions : QuestionsWaitForReplies
@@ -227,15 +228,17 @@ questions = record {
   opens = λ settings log opened h. record {
     requests =
         let none : tokens_in opened.service.intake.waiting.items ≡ [] = ap (map token_of) h.intake.waiting in
-        none ∙ ap tokens_of (sym h.begins.requests) ∙ ap (λ (v : CoreView). tokens_of v.requests) (sym h.intake.server);
+        none ∙ ap tokens_of (sym h.begins.requests) ∙ ap (λ (v : Core). tokens_of v.requests) (sym h.intake.server);
     reads =
         let none : tokens_in opened.service.intake.reading.items ≡ [] = ap (map token_of) h.intake.reading in
-        none ∙ ap read_tokens (sym h.begins.reads) ∙ ap (λ (v : CoreView). read_tokens v.reads) (sym h.intake.server);
+        none ∙ ap read_tokens (sym h.begins.reads) ∙ ap (λ (v : Core). read_tokens v.reads) (sym h.intake.server);
   };
-  ticks = called Ticks (λ once a b out r. once.ticks a b out r) (λ once a b out r. once.ticks a b out r);
-  receives = λ bytes. called (Receives bytes) (λ once a b out r. once.receives bytes a b out r) (λ once a b out r. once.receives bytes a b out r);
-  writes = called Writes (λ once a b out r. once.writes a b out r) (λ once a b out r. once.writes a b out r);
+  ticks = called (Ticks application) (λ once a b out r. once.ticks a b out r) (λ once a b out r. once.ticks a b out r);
+  receives = λ bytes.
+      called (Receives application state bytes) (λ once a b out r. once.receives bytes a b out r) (λ once a b out r. once.receives bytes a b out r);
+  writes = called (Writes application state) (λ once a b out r. once.writes a b out r) (λ once a b out r. once.writes a b out r);
   releases = λ position.
-      called (Releases position) (λ once a b out r. once.releases position a b out r) (λ once a b out r. once.releases position a b out r);
+      called (Releases application state position) (λ once a b out r. once.releases position a b out r)
+      (λ once a b out r. once.releases position a b out r);
   feeds = λ client bytes old new count outputs h clients reads e. served client h.fed new.clients old.intake new.intake [] outputs h.serves e;
 }

@@ -1,7 +1,7 @@
 -- What is done one after another, by its last one.
 use Rattle.std.proofs.Common.{ℕ, List, [], ◌∷◌, ◌++◌, refl, subst}
 use Rattle.raft_clients.specs.declared.clients.Clients.{Clients}
-use Rattle.raft_core.specs.declared.output.Output as core_output
+use Rattle.raft_service.specs.Core.{CoreOutput}
 use Rattle.raft_service.specs.Delivering.{Delivers, DeliversAll}
 use Rattle.raft_service.specs.Serving.{Serves, ServesAll}
 use Rattle.raft_service.specs.declared.intake.Intake.{Intake}
@@ -9,7 +9,7 @@ use Rattle.raft_service.specs.declared.output.Output.{Output}
 use Rattle.raft_service.specs.declared.service.Service.{Service}
 
 -- one more output
-pub delivers_more : (os : List core_output.Output) (o : core_output.Output) (old s new : Service) (before out after : List Output)
+pub delivers_more : (os : List CoreOutput) (o : CoreOutput) (old s new : Service) (before out after : List Output)
     → DeliversAll os old before s out → Delivers o s out new after → DeliversAll (os ++ o ∷ []) old before new after
 delivers_more [] o old s new before out after h d =
     (new, after, subst (λ (b : List Output). Delivers o old b new after) h.1 (subst (λ (t : Service). Delivers o t out new after) h.0 d), (refl, refl))

@@ -33,11 +33,12 @@ use Rattle.raft_connection.specs.declared.pending.Waiting.{Waiting}
 use Rattle.raft_connection.specs.declared.session.Work.{Work}
 use Rattle.raft_connection.specs.declared.session.Work.TheVariants as work
 use Rattle.raft_core.specs.Calls.{Receives, Releases, Ticks, Writes}
-use Rattle.raft_core.specs.Views.{CoreView}
-use Rattle.raft_core.specs.declared.output.Output as core_output
 use Rattle.raft_core.specs.declared.output.Output.TheVariants as core
+use Rattle.raft_executor.specs.KeyValue.{application}
+use Rattle.raft_machine.specs.Bytes.{state}
 use Rattle.raft_service.specs.Calls.{Calls, Feeds, Joins, Leaves, Opens, at_moment, with_core}
 use Rattle.raft_executor.specs.Executor.{executed_of}
+use Rattle.raft_service.specs.Core.{Core, CoreOutput}
 use Rattle.raft_service.specs.Delivering.{AnswersIf, answer_to, DeliversAll, Replied}
 use Rattle.raft_service.specs.Intake.{Admitted, AdmitsBy, AsksRound, EntersLog, FreesFirst, TakesFirst, TakesFirstOf, TakesRead, goes_by_round, is_reading, plan_for, question_of, with_token}
 use Rattle.raft_service.specs.Laws.{IsInOrder, KeepsOrder, ReadsAlone, ReadsIf, RequestsKeepTheirOrder, count_of_client, logged, read, under_way}
@@ -377,7 +378,7 @@ replied Takes took reply old new r order =
     answered_if r.taken reply.answer m new r.answered
     (λ p e c at. at_once _ _ _ (w.less p e) (order.waits p.client c (ap (λ (cs : Clients). connection_at cs p.client) (sym same) ∙ at))) there
 
-delivered : (out : List core_output.Output) (old new : Service) (before after : List Output) → DeliversAll out old before new after
+delivered : (out : List CoreOutput) (old new : Service) (before after : List Output) → DeliversAll out old before new after
     → KeepsOrder old new
 delivered [] old new before after h order = subst (λ (s : Service). IsInOrder s.clients s.intake) (sym h.0) order
 delivered (core.Send to bytes ∷ os) old new before after h order =
@@ -574,7 +575,7 @@ served_all (c ∷ more) old new i j before after h order = served_all more h.0 n
 
 -- ---- calls
 
-called : (R : CoreView → List core_output.Output → CoreView → Type 0) (old new : Service) (outputs : List Output) → Calls R old new outputs
+called : (R : Core → List CoreOutput → Core → Type 0) (old new : Service) (outputs : List Output) → Calls R old new outputs
     → KeepsOrder old new
 called R old new outputs h order =
     let m = h.handles in
@@ -642,10 +643,10 @@ begun_in_order settings log o h =
 pub in_order : RequestsKeepTheirOrder
 in_order = record {
   opens = begun_in_order;
-  ticks = called Ticks;
-  receives = λ bytes. called (Receives bytes);
-  writes = called Writes;
-  releases = λ position. called (Releases position);
+  ticks = called (Ticks application);
+  receives = λ bytes. called (Receives application state bytes);
+  writes = called (Writes application state);
+  releases = λ position. called (Releases application state position);
   feeds = fed;
   joins = λ client old new h order.
       subst (λ (i : Intake). IsInOrder new.clients i) (sym (ap (λ (s : Service). s.intake) h.rest))

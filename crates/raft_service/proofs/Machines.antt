@@ -1,16 +1,19 @@
 -- The state machine is what is executed.
-use Rattle.std.proofs.Common.{ℕ, ◌≡◌, List, [], ◌∷◌, Option, Some, None, refl, ap, ◌∙◌}
+use Rattle.std.proofs.Common.{ℕ, ◌≡◌, List, [], ◌∷◌, ◌++◌, Option, Some, None, refl, sym, ap, ◌∙◌}
 use Rattle.std.specs.List.{fold}
-use Rattle.std.specs.NonZero.{non_zero_usize_get}
+use Rattle.std.proofs.lemmas.List.Sums.{fold-append}
 use Rattle.raft_answers.specs.declared.answer.Answer as raft_answer
 use Rattle.raft_answers.specs.declared.answer.Answer.TheVariants as answers
-use Rattle.raft_core.specs.declared.output.Output as core_output
 use Rattle.raft_core.specs.declared.output.Output.TheVariants as core
-use Rattle.raft_executor.specs.Executor.{Executed, begun, executed, executed_all, executed_of}
+use Rattle.raft_executor.specs.Executor.{Executed, executed_of}
+use Rattle.raft_executor.specs.KeyValue.{application}
 use Rattle.raft_machine.specs.Machine.{State}
 use Rattle.raft_store.specs.declared.entry.Entry.{Entry}
-use Rattle.raft_service.specs.Delivering.{AnswersIf, told}
-use Rattle.raft_service.specs.Laws.{MachineIsWhatIsExecuted, moved, state_after, state_of}
+use Rattle.raft_executor.specs.proof_packed_stores.Stores.{Packed}
+use Rattle.raft_service.specs.Core.{CoreOutput}
+use Rattle.raft_service.specs.Delivering.{AnswersIf, Delivers, DeliversAll, told}
+use Rattle.raft_service.specs.Laws.{GoesOn, GoOn, MachineIsWhatIsExecuted, moved, state_after, state_of}
+use Rattle.raft_service.specs.declared.output.Output.{Output}
 use Rattle.raft_service.specs.declared.question.Question.{Question}
 use Rattle.raft_service.specs.declared.question.Wanted.{Wanted}
 use Rattle.raft_service.specs.declared.question.Wanted.TheVariants as wanted
@@ -24,44 +27,49 @@ told_keeps x (wanted.Replies count) (answers.NotLeader leader) = refl
 told_keeps x (wanted.Replies count) answers.Unknown = refl
 told_keeps x (wanted.Query q) a = refl
 
-answer_keeps : (q : Option Question) (a : raft_answer.Answer) (old new : Service) → AnswersIf q a old new → (state_of new ≡ state_of old) × (new.sessions ≡ old.sessions)
-answer_keeps None a old new h = (ap state_of h, ap (λ (s : Service). s.sessions) h)
-answer_keeps (Some q) a old new h = (ap (λ (x : Executed). x.state) h.executor ∙ told_keeps (executed_of old.executor) q.wanted a, ap (λ (s : Service). s.sessions) h.rest)
+answer_keeps : (q : Option Question) (a : raft_answer.Answer) (old new : Service) → AnswersIf q a old new → state_of new ≡ state_of old
+answer_keeps None a old new h = ap state_of h
+answer_keeps (Some q) a old new h = ap (λ (x : Executed). x.state) h.executor ∙ told_keeps (executed_of old.executor) q.wanted a
 
-executed_states : (es : List Entry) (x : Executed) → (executed_all x es).state ≡ state_after x.state es
-executed_states [] x = refl
-executed_states (e ∷ es) x = executed_states es (executed x e)
+-- one output
+delivered_state : (o : CoreOutput) (old new : Service) (before after : List Output) → Delivers o old before new after
+    → state_of new ≡ moved (state_of old) o
+delivered_state (core.Send to bytes) old new before after h = ap state_of h.0
+delivered_state (core.Append bytes end) old new before after h = ap state_of h.0
+delivered_state (core.Install snapshot) old new before after h = ap (λ (x : Executed). x.state) h.0.becomes
+delivered_state (core.Execute entry) old new before after h = ap (λ (x : Executed). x.state) h.0.becomes
+delivered_state (core.Reply reply) old new before after h =
+    answer_keeps h.0.taken reply.answer h.0.middle new h.0.answered ∙ ap state_of h.0.rest
+delivered_state (core.Read reply) old new before after h =
+    answer_keeps h.0.taken reply.answer h.0.middle new h.0.answered ∙ ap state_of h.0.rest
 
--- the rest of the outputs, from an equal state on
-from : (sessions : ℕ) (out : List core_output.Output) (s t : State) → s ≡ t → fold (moved sessions) s out ≡ fold (moved sessions) t out
-from sessions out s t e = ap (λ (u : State). fold (moved sessions) u out) e
-
-pub delivered_states : MachineIsWhatIsExecuted
+delivered_states : (out : List CoreOutput) (old new : Service) (before after : List Output) → DeliversAll out old before new after
+    → state_of new ≡ fold moved (state_of old) out
 delivered_states [] old new before after h = ap state_of h.0
-delivered_states (core.Send to bytes ∷ os) old new before after h =
-    delivered_states os h.0 new h.1 after h.3
-    ∙ ap (λ (s : Service). fold (moved (non_zero_usize_get s.sessions)) (state_of s) os) h.2.0
-delivered_states (core.Append bytes end ∷ os) old new before after h =
-    delivered_states os h.0 new h.1 after h.3
-    ∙ ap (λ (s : Service). fold (moved (non_zero_usize_get s.sessions)) (state_of s) os) h.2.0
-delivered_states (core.Install entries ∷ os) old new before after h =
-    delivered_states os h.0 new h.1 after h.3
-    ∙ ap (λ (s : Service). fold (moved (non_zero_usize_get s.sessions)) (state_of h.0) os) h.2.0.rest
-    ∙ from (non_zero_usize_get old.sessions) os _ _
-    (ap (λ (x : Executed). x.state) h.2.0.becomes ∙ executed_states entries (begun (non_zero_usize_get old.sessions)))
-delivered_states (core.Execute entry ∷ os) old new before after h =
-    delivered_states os h.0 new h.1 after h.3
-    ∙ ap (λ (s : Service). fold (moved (non_zero_usize_get s.sessions)) (state_of h.0) os) h.2.0.rest
-    ∙ from (non_zero_usize_get old.sessions) os _ _ (ap (λ (x : Executed). x.state) h.2.0.becomes)
-delivered_states (core.Reply reply ∷ os) old new before after h =
-    let r = h.2.0 in
-    let a = answer_keeps r.taken reply.answer r.middle h.0 r.answered in
-    delivered_states os h.0 new h.1 after h.3
-    ∙ ap (λ n. fold (moved (non_zero_usize_get n)) (state_of h.0) os) (a.1 ∙ ap (λ (s : Service). s.sessions) r.rest)
-    ∙ from (non_zero_usize_get old.sessions) os _ _ (a.0 ∙ ap state_of r.rest)
-delivered_states (core.Read reply ∷ os) old new before after h =
-    let r = h.2.0 in
-    let a = answer_keeps r.taken reply.answer r.middle h.0 r.answered in
-    delivered_states os h.0 new h.1 after h.3
-    ∙ ap (λ n. fold (moved (non_zero_usize_get n)) (state_of h.0) os) (a.1 ∙ ap (λ (s : Service). s.sessions) r.rest)
-    ∙ from (non_zero_usize_get old.sessions) os _ _ (a.0 ∙ ap state_of r.rest)
+delivered_states (o ∷ os) old new before after h =
+    delivered_states os h.0 new h.1 after h.3 ∙ ap (λ (st : State). fold moved st os) (delivered_state o old h.0 before h.1 h.2)
+
+-- ---- the entries that were executed
+
+abbrev after : List Entry → State
+after es = state_after application.first es
+
+moved_after : (o : CoreOutput) (es fs : List Entry) → GoesOn o es fs → moved (after es) o ≡ after fs
+moved_after (core.Send to bytes) es fs h = ap after (sym h)
+moved_after (core.Append bytes end) es fs h = ap after (sym h)
+moved_after (core.Install snapshot) es fs h = ap (λ (p : Packed State). p.state) h
+moved_after (core.Execute entry) es fs h = sym (ap after h ∙ fold-append application.apply application.first es (entry ∷ []))
+moved_after (core.Reply reply) es fs h = ap after (sym h)
+moved_after (core.Read reply) es fs h = ap after (sym h)
+
+all_after : (out : List CoreOutput) (es fs : List Entry) → GoOn out es fs → fold moved (after es) out ≡ after fs
+all_after [] es fs h = ap after (sym h)
+all_after (o ∷ os) es fs h = ap (λ (st : State). fold moved st os) (moved_after o es h.0 h.1) ∙ all_after os h.0 fs h.2
+
+pub machine : MachineIsWhatIsExecuted
+machine = record {
+  opens = λ settings log opened o es h. ap (λ (x : Executed). x.state) o.executed ∙ ap (λ (p : Packed State). p.state) h;
+  moves = delivered_states;
+  executes = λ out old new before after' es fs h goes executed.
+      delivered_states out old new before after' h ∙ ap (λ (st : State). fold moved st out) executed ∙ all_after out es fs goes;
+}

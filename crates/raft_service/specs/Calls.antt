@@ -1,13 +1,13 @@
 -- What each call of a service does.
-use Rattle.std.specs.Prelude.{ℕ, ◌≡◌, max, List, []}
-use Rattle.std.specs.NonZero.{non_zero_usize_get}
+use Rattle.std.specs.Prelude.{ℕ, ◌≡◌, max, List, [], Option}
 use Rattle.raft_clients.specs.Clients.{Connects, Disconnects, Keeps, Nobody, Takes}
 use Rattle.raft_clients.specs.declared.clients.Clients.{Clients}
-use Rattle.raft_core.specs.Views.{CoreView}
-use Rattle.raft_core.specs.declared.driver.OpenedCore.{OpenedCore}
-use Rattle.raft_core.specs.declared.output.Output as core_output
 use Rattle.raft_core.specs.Calls as core
-use Rattle.raft_executor.specs.Executor.{begun, executed_of}
+use Rattle.raft_executor.specs.Executor.{executed_of, installed}
+use Rattle.raft_executor.specs.KeyValue.{application}
+use Rattle.raft_machine.specs.Bytes.{state}
+use Rattle.raft_core.specs.raft_packed_server.declared.batch.Written.{Written}
+use Rattle.raft_service.specs.Core.{Core, CoreOutput, OpenedCore}
 use Rattle.raft_service.specs.Delivering.{DeliversAll}
 use Rattle.raft_service.specs.Intake.{Begins}
 use Rattle.raft_service.specs.Serving.{Serves, ServesAll}
@@ -16,18 +16,24 @@ use Rattle.raft_service.specs.declared.service.OpenedService.{OpenedService}
 use Rattle.raft_service.specs.declared.service.Service.{Service}
 use Rattle.raft_service.specs.declared.settings.Settings.{Settings}
 
--- One that was opened: its server begins on the log, its machine has executed nothing, and nobody is connected.
+-- One that was opened: its server begins on the log, its machine has executed what the log's snapshot has, and nobody is connected.
 pub record Opens (settings : Settings) (log : List ℕ) (opened : OpenedService) : Type 0 where
   pub server : OpenedCore
-  pub begins : core.Begins settings.given settings.id log server
+  pub begins : core.Begins application state settings.given settings.id log server
   pub end : opened.end ≡ server.end
   pub intake : Begins server.core settings.addresses opened.service.intake
-  pub executed : executed_of opened.service.executor ≡ begun (non_zero_usize_get settings.sessions)
+  pub named : opened.service.id ≡ settings.id
+  pub executed : executed_of opened.service.executor ≡ installed server.applied
   pub clients : Nobody settings.connections settings.clients opened.service.clients
 
 -- the server made this of a call
-abbrev pub with_core : Service → CoreView → Service
+abbrev pub with_core : Service → Core → Service
 with_core s server = record s { intake = record s.intake { core = server } }
+
+-- a new log is begun for its server, or none is; nothing else is done
+pub record BeginsLog (old : Service) (written : Option Written) (new : Service) : Type 0 where
+  pub begins : core.MayBeginLog state old.id old.intake.core written new.intake.core
+  pub rest : new ≡ with_core old new.intake.core
 
 -- the clients that were answered are served
 pub record Finishes (old : Service) (before : List Output) (new : Service) (after : List Output) : Type 0 where
@@ -44,16 +50,16 @@ abbrev pub at_moment : Service → Service
 at_moment s = record s { intake = record s.intake { reached = moment_of s } }
 
 -- What the server put out is done, in its order, and then the clients that were answered are served.
-pub record Handles (out : List core_output.Output) (old new : Service) (outputs : List Output) : Type 0 where
+pub record Handles (out : List CoreOutput) (old new : Service) (outputs : List Output) : Type 0 where
   pub middle : Service
   pub so_far : List Output
   pub delivers : DeliversAll out old [] middle so_far
   pub finishes : Finishes (at_moment middle) so_far new outputs
 
 -- A call of the server, of which the relation R tells, and what it put out is done.
-pub record Calls (R : CoreView → List core_output.Output → CoreView → Type 0) (old new : Service) (outputs : List Output) : Type 0 where
-  pub server : CoreView
-  pub out : List core_output.Output
+pub record Calls (R : Core → List CoreOutput → Core → Type 0) (old new : Service) (outputs : List Output) : Type 0 where
+  pub server : Core
+  pub out : List CoreOutput
   pub called : R old.intake.core out server
   pub handles : Handles out (with_core old server) new outputs
 

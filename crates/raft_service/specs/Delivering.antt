@@ -1,6 +1,5 @@
 -- What outputs of the server come to.
 use Rattle.std.specs.Prelude.{ℕ, ◌≡◌, ◌==◌, length, List, [], ◌∷◌, ◌++◌, Option, Some, None, if◌then◌else◌}
-use Rattle.std.specs.NonZero.{non_zero_usize_get}
 use Rattle.raft_answers.specs.declared.answer.Answer as raft_answer
 use Rattle.raft_answers.specs.declared.answer.Answer.TheVariants as answers
 use Rattle.raft_answers.specs.declared.answer.Reply.{Reply}
@@ -8,12 +7,12 @@ use Rattle.raft_answers.specs.declared.request.Token.{Token}
 use Rattle.raft_clients.specs.Clients.{Answers}
 use Rattle.raft_connection.specs.declared.answer.Answer.{Answer}
 use Rattle.raft_connection.specs.declared.answer.Answer.TheVariants.{Replies, NoLeader, Outdated, Reused, Interrupted}
-use Rattle.raft_core.specs.declared.output.Output as core_output
 use Rattle.raft_core.specs.declared.output.Output.TheVariants as core
-use Rattle.raft_executor.specs.Executor.{Executed, begun, executed, executed_all, executed_of, without_outcome}
+use Rattle.raft_executor.specs.Executor.{Executed, executed, executed_of, installed, without_outcome}
 use Rattle.raft_machine.specs.Commands.{answer}
 use Rattle.raft_machine.specs.declared.machine.Outcome.{Outcome}
 use Rattle.raft_machine.specs.declared.machine.Outcome.TheVariants as outcome
+use Rattle.raft_service.specs.Core.{CoreOutput}
 use Rattle.raft_service.specs.Intake.{Addresses, TakesFirst, TakesRead, not_leader}
 use Rattle.raft_service.specs.declared.intake.Intake.{Intake}
 use Rattle.raft_service.specs.declared.output.Output.{Output}
@@ -72,17 +71,17 @@ pub record Machine (after : Executed) (old new : Service) : Type 0 where
   pub becomes : executed_of new.executor ≡ after
   pub rest : new ≡ record old { executor = new.executor }
 
--- Messages and bytes for the log leave; a snapshot is executed from the first entry on; an entry is executed; a reply answers a
+-- Messages and bytes for the log leave; a snapshot's state is put in place; an entry is executed; a reply answers a
 -- question.
-abbrev pub Delivers : core_output.Output → Service → List Output → Service → List Output → Type 0
+abbrev pub Delivers : CoreOutput → Service → List Output → Service → List Output → Type 0
 Delivers (core.Send to bytes) old before new after = (new ≡ old) × (after ≡ before ++ outputs.Send to bytes ∷ [])
 Delivers (core.Append bytes end) old before new after = (new ≡ old) × (after ≡ before ++ outputs.Append bytes end ∷ [])
-Delivers (core.Install entries) old before new after = Machine (executed_all (begun (non_zero_usize_get old.sessions)) entries) old new × (after ≡ before)
+Delivers (core.Install snapshot) old before new after = Machine (installed snapshot) old new × (after ≡ before)
 Delivers (core.Execute entry) old before new after = Machine (executed (executed_of old.executor) entry) old new × (after ≡ before)
 Delivers (core.Reply reply) old before new after = Replied TakesFirst reply old new × (after ≡ before)
 Delivers (core.Read reply) old before new after = Replied TakesRead reply old new × (after ≡ before)
 
 -- outputs, in their order
-abbrev pub DeliversAll : List core_output.Output → Service → List Output → Service → List Output → Type 0
+abbrev pub DeliversAll : List CoreOutput → Service → List Output → Service → List Output → Type 0
 DeliversAll [] old before new after = (new ≡ old) × (after ≡ before)
 DeliversAll (o ∷ os) old before new after = (middle : Service) × (out : List Output) × Delivers o old before middle out × DeliversAll os middle out new after

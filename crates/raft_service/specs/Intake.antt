@@ -12,7 +12,6 @@ use Rattle.raft_connection.specs.declared.answer.Answer.{Answer}
 use Rattle.raft_connection.specs.declared.answer.Answer.TheVariants.{Replies, Moved, NoLeader, Busy}
 use Rattle.raft_connection.specs.declared.connection.Asked.{Asked}
 use Rattle.raft_core.specs.Calls.{Admits, AdmitsRead}
-use Rattle.raft_core.specs.Views.{CoreView}
 use Rattle.raft_core.specs.declared.error.RequestError.{RequestError}
 use Rattle.raft_core.specs.declared.error.RequestError.TheVariants as error
 use Rattle.raft_machine.specs.declared.command.Failure.TheVariants.{TooLong}
@@ -23,13 +22,14 @@ use Rattle.raft_service.specs.declared.plan.Way.{Way}
 use Rattle.raft_service.specs.declared.plan.Way.TheVariants.{Entry, Round}
 use Rattle.raft_service.specs.declared.question.Question.{Question}
 use Rattle.raft_service.specs.declared.settings.Address.{Address}
+use Rattle.raft_service.specs.Core.{Core}
 use Rattle.raft_service.specs.Plans.{count_of, planned}
 
 abbrev pub Addresses : Type 0
 Addresses = BTreeMap ℕ Address
 
 -- no question waits
-pub record Begins (core : CoreView) (addresses : Addresses) (new : Intake) : Type 0 where
+pub record Begins (core : Core) (addresses : Addresses) (new : Intake) : Type 0 where
   pub server : new.core ≡ core
   pub places : new.addresses ≡ addresses
   pub waiting : new.waiting.items ≡ []

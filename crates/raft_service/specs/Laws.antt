@@ -1,7 +1,6 @@
 -- What is promised of a service.
-use Rattle.std.specs.Prelude.{ℕ, ◌≡◌, ◌+◌, ◌≤◌, Bool, true, false, nat_eq, List, [], ◌∷◌, map, Some, None, if◌then◌else◌}
+use Rattle.std.specs.Prelude.{ℕ, ◌≡◌, ◌+◌, ◌≤◌, Bool, true, false, nat_eq, List, [], ◌∷◌, ◌++◌, map, Some, None, if◌then◌else◌}
 use Rattle.std.specs.List.{fold}
-use Rattle.std.specs.NonZero.{non_zero_usize_get}
 use Rattle.raft_answers.specs.Requests.{tokens_of}
 use Rattle.raft_answers.specs.declared.request.Token.{Token}
 use Rattle.raft_clients.specs.Clients.{connection_at}
@@ -11,12 +10,15 @@ use Rattle.raft_connection.specs.declared.connection.Connection.{Connection}
 use Rattle.raft_core.specs.Calls.{Receives, Releases, Ticks, Writes}
 use Rattle.raft_core.specs.Laws.{ClientsAreAnsweredOnce, ReadsAreAnsweredOnce}
 use Rattle.raft_core.specs.Reads.{read_tokens}
-use Rattle.raft_core.specs.declared.output.Output as core_output
 use Rattle.raft_core.specs.declared.output.Output.TheVariants as core
-use Rattle.raft_executor.specs.Executor.{executed_of, ran, request_in}
-use Rattle.raft_machine.specs.Machine.{State, started}
+use Rattle.raft_executor.specs.Executor.{executed_of}
+use Rattle.raft_executor.specs.KeyValue.{application}
+use Rattle.raft_machine.specs.Bytes.{state}
+use Rattle.raft_machine.specs.Machine.{State}
+use Rattle.raft_executor.specs.proof_packed_stores.Stores.{packed}
 use Rattle.raft_store.specs.declared.entry.Entry.{Entry}
 use Rattle.raft_service.specs.Calls.{Calls, Feeds, Joins, Leaves, Opens}
+use Rattle.raft_service.specs.Core.{CoreOutput}
 use Rattle.raft_service.specs.Delivering.{DeliversAll}
 use Rattle.raft_service.specs.Intake.{is_reading}
 use Rattle.raft_service.specs.declared.intake.Intake.{Intake}
@@ -30,25 +32,46 @@ use Rattle.raft_service.specs.declared.settings.Settings.{Settings}
 
 -- what executing entries makes of a state
 abbrev pub state_after : State → List Entry → State
-state_after st es = fold (λ s e. (ran s (request_in e.payload)).0) st es
+state_after st es = fold application.apply st es
 
--- what an output of the server makes of it: entries are executed, and a snapshot is the entries from the first one on
-abbrev pub moved : ℕ → State → core_output.Output → State
-moved sessions st (core.Send to bytes) = st
-moved sessions st (core.Append bytes end) = st
-moved sessions st (core.Install entries) = state_after (started sessions) entries
-moved sessions st (core.Execute entry) = state_after st (entry ∷ [])
-moved sessions st (core.Reply reply) = st
-moved sessions st (core.Read reply) = st
+-- what an output of the server makes of it: an entry is executed, and a snapshot's state is put in place
+abbrev pub moved : State → CoreOutput → State
+moved st (core.Send to bytes) = st
+moved st (core.Append bytes end) = st
+moved st (core.Install snapshot) = snapshot.state
+moved st (core.Execute entry) = state_after st (entry ∷ [])
+moved st (core.Reply reply) = st
+moved st (core.Read reply) = st
 
 abbrev pub state_of : Service → State
 state_of s = (executed_of s.executor).state
 
--- The state machine is what executing the server's entries, in their order, makes of it, and nothing else changes it.
-abbrev pub MachineIsWhatIsExecuted : Type 0
-MachineIsWhatIsExecuted =
-    (out : List core_output.Output) (old new : Service) (before after : List Output) → DeliversAll out old before new after
-    → state_of new ≡ fold (moved (non_zero_usize_get old.sessions)) (state_of old) out
+-- What an output makes of the entries that were executed, from the first one on: one more is, or those of a snapshot are in their place.
+abbrev pub GoesOn : CoreOutput → List Entry → List Entry → Type 0
+GoesOn (core.Send to bytes) es fs = fs ≡ es
+GoesOn (core.Append bytes end) es fs = fs ≡ es
+GoesOn (core.Install snapshot) es fs = snapshot ≡ packed application fs
+GoesOn (core.Execute entry) es fs = fs ≡ es ++ entry ∷ []
+GoesOn (core.Reply reply) es fs = fs ≡ es
+GoesOn (core.Read reply) es fs = fs ≡ es
+
+abbrev pub GoOn : List CoreOutput → List Entry → List Entry → Type 0
+GoOn [] es fs = fs ≡ es
+GoOn (o ∷ os) es fs = (between : List Entry) × GoesOn o es between × GoOn os between fs
+
+-- the state machine is what executing these entries, from the first one on, makes of an empty one
+abbrev pub HasExecuted : List Entry → Service → Type 0
+HasExecuted es s = state_of s ≡ state_after application.first es
+
+-- The state machine is what executing the server's entries, in their order, makes of it, and nothing else changes it. A snapshot stands for entries
+-- from the first one on: then it is as if these were executed. So it is with the one of the log on which the service was opened.
+pub record MachineIsWhatIsExecuted : Type 0 where
+  pub opens : (settings : Settings) (log : List ℕ) (opened : OpenedService) (o : Opens settings log opened) (es : List Entry)
+      → o.server.applied ≡ packed application es → HasExecuted es opened.service
+  pub moves : (out : List CoreOutput) (old new : Service) (before after : List Output) → DeliversAll out old before new after
+      → state_of new ≡ fold moved (state_of old) out
+  pub executes : (out : List CoreOutput) (old new : Service) (before after : List Output) (es fs : List Entry) → DeliversAll out old before new after
+      → GoOn out es fs → HasExecuted es old → HasExecuted fs new
 
 -- ---- questions
 
@@ -62,16 +85,18 @@ pub record IsAligned (s : Intake) : Type 0 where
 
 -- a call keeps it
 abbrev pub KeepsAligned : Service → Service → Type 0
-KeepsAligned old new = ClientsAreAnsweredOnce → ReadsAreAnsweredOnce → IsAligned old.intake → IsAligned new.intake
+KeepsAligned old new = ClientsAreAnsweredOnce application state → ReadsAreAnsweredOnce application state → IsAligned old.intake → IsAligned new.intake
 
 -- So it is from the opening on, since each call of the server answers the first of its requests, and of its reads. So each reply is a question's, and
 -- each question is answered once at most.
 pub record QuestionsWaitForReplies : Type 0 where
   pub opens : (settings : Settings) (log : List ℕ) (opened : OpenedService) → Opens settings log opened → IsAligned opened.service.intake
-  pub ticks : (old new : Service) (outputs : List Output) → Calls Ticks old new outputs → KeepsAligned old new
-  pub receives : (bytes : List ℕ) (old new : Service) (outputs : List Output) → Calls (Receives bytes) old new outputs → KeepsAligned old new
-  pub writes : (old new : Service) (outputs : List Output) → Calls Writes old new outputs → KeepsAligned old new
-  pub releases : (position : ℕ) (old new : Service) (outputs : List Output) → Calls (Releases position) old new outputs → KeepsAligned old new
+  pub ticks : (old new : Service) (outputs : List Output) → Calls (Ticks application) old new outputs → KeepsAligned old new
+  pub receives : (bytes : List ℕ) (old new : Service) (outputs : List Output) → Calls (Receives application state bytes) old new outputs
+      → KeepsAligned old new
+  pub writes : (old new : Service) (outputs : List Output) → Calls (Writes application state) old new outputs → KeepsAligned old new
+  pub releases : (position : ℕ) (old new : Service) (outputs : List Output) → Calls (Releases application state position) old new outputs
+      → KeepsAligned old new
   pub feeds : (client : ℕ) (bytes : List ℕ) (old new : Service) (count : ℕ) (outputs : List Output) → Feeds client bytes old new count outputs
       → KeepsAligned old new
 
@@ -116,10 +141,12 @@ KeepsOrder old new = IsInOrder old.clients old.intake → IsInOrder new.clients 
 pub record RequestsKeepTheirOrder : Type 0 where
   pub opens : (settings : Settings) (log : List ℕ) (opened : OpenedService) → Opens settings log opened
       → IsInOrder opened.service.clients opened.service.intake
-  pub ticks : (old new : Service) (outputs : List Output) → Calls Ticks old new outputs → KeepsOrder old new
-  pub receives : (bytes : List ℕ) (old new : Service) (outputs : List Output) → Calls (Receives bytes) old new outputs → KeepsOrder old new
-  pub writes : (old new : Service) (outputs : List Output) → Calls Writes old new outputs → KeepsOrder old new
-  pub releases : (position : ℕ) (old new : Service) (outputs : List Output) → Calls (Releases position) old new outputs → KeepsOrder old new
+  pub ticks : (old new : Service) (outputs : List Output) → Calls (Ticks application) old new outputs → KeepsOrder old new
+  pub receives : (bytes : List ℕ) (old new : Service) (outputs : List Output) → Calls (Receives application state bytes) old new outputs
+      → KeepsOrder old new
+  pub writes : (old new : Service) (outputs : List Output) → Calls (Writes application state) old new outputs → KeepsOrder old new
+  pub releases : (position : ℕ) (old new : Service) (outputs : List Output) → Calls (Releases application state position) old new outputs
+      → KeepsOrder old new
   pub feeds : (client : ℕ) (bytes : List ℕ) (old new : Service) (count : ℕ) (outputs : List Output) → Feeds client bytes old new count outputs
       → KeepsOrder old new
   pub joins : (client : ℕ) (old new : Service) → Joins client old new → KeepsOrder old new

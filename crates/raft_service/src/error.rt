@@ -8,7 +8,7 @@ use thiserror::Error;
 pub enum OpenError {
     /// Its server was not.
     #[error("{0}")]
-    Server(raft_server::OpenError),
+    Server(raft_core::raft_packed_server::OpenError),
     #[error("out of memory")]
     OutOfMemory,
 }

@@ -10,6 +10,7 @@ use crate::settings::Address;
 use raft_answers::{Operation, Refusal, Token};
 use raft_connection::{Answer, Asked};
 use raft_core::{RaftCore, RequestError};
+use raft_executor::KeyValue;
 use raft_machine::{Failure, Reply};
 use raft_state::Items;
 use std::alloc::{AllocError, Global};
@@ -19,7 +20,7 @@ use std::collections::{BTreeMap, BTreeSet, VecDeque};
 #[derive(Drop)]
 pub(crate) struct Intake {
     alloc: Global,
-    pub(crate) core: RaftCore,
+    pub(crate) core: RaftCore<KeyValue>,
     /// The questions that go through the log, in their order.
     waiting: VecDeque<Question>,
     /// The queries that are asked by a round, in their order.
@@ -94,7 +95,11 @@ fn with_token(question: Question, token: Token) -> Option<Question>
 
 impl Intake {
     /// No question waits.
-    pub(crate) fn new(alloc: Global, core: RaftCore, addresses: BTreeMap<u64, Address>) -> Self
+    pub(crate) fn new(
+        alloc: Global,
+        core: RaftCore<KeyValue>,
+        addresses: BTreeMap<u64, Address>,
+    ) -> Self
         ensures { Begins core addresses result }
     {
         Intake {

@@ -2,7 +2,8 @@
 
 ghost use Rattle.raft_service.specs.Laws.{MachineIsWhatIsExecuted, QuestionsWaitForReplies, RequestsKeepTheirOrder};
 
-/// The state machine is what executing the server's entries, in their order, makes of it, and nothing else changes it.
+/// The state machine is what executing the server's entries, in their order, makes of it, and nothing else changes it. A snapshot
+/// stands for entries from the first one on: once it is put in place, it is as if these were executed.
 pub fn machine_is_what_is_executed()
     ensures { MachineIsWhatIsExecuted }
 {}

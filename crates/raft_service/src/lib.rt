@@ -19,6 +19,9 @@
 //! After an error that isn't a refusal the service is opened again on its log, and its clients connect again.
 #![tactic(auto)]
 
+pub use raft_core;
+pub use raft_core::raft_packed_server;
+
 mod error;
 mod intake;
 mod laws;

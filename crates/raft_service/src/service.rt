@@ -1,11 +1,12 @@
 //! A service: its server, its state machine and its clients.
 
 ghost use Rattle.std.specs.Prelude.{◌≡◌, ◌++◌, [], ◌∷◌, IfErr, IfOk, OnErr, OnOk};
-ghost use Rattle.std.specs.NonZero.{non_zero_usize_get};
 ghost use Rattle.raft_node.specs.declared.act.Act.TheVariants.{Initialize};
 ghost use Rattle.raft_core.specs.Calls.{Begins, IsRefusal, Moves, Receives, Releases, Ticks, Writes};
-ghost use Rattle.raft_executor.specs.Executor.{begun, executed_all, executed_of, without_outcome};
-ghost use Rattle.raft_service.specs.Calls.{Calls, Feeds, Handles, Joins, Leaves, Opens, Stays, at_time, with_core};
+ghost use Rattle.raft_executor.specs.Executor.{executed_of, installed, without_outcome};
+ghost use Rattle.raft_executor.specs.KeyValue.{application};
+ghost use Rattle.raft_machine.specs.Bytes.{state};
+ghost use Rattle.raft_service.specs.Calls.{BeginsLog, Calls, Feeds, Handles, Joins, Leaves, Opens, Stays, at_time, with_core};
 ghost use Rattle.raft_service.specs.Delivering.{Answered, AnswersIf, Delivers, DeliversAll, Machine, Replied, answer_to, executed_answer};
 ghost use Rattle.raft_service.specs.Delivering.{last_answer, told};
 ghost use Rattle.raft_service.specs.Intake.{TakesFirst, TakesRead};
@@ -22,22 +23,21 @@ use crate::status::Status;
 use raft_answers::Reply;
 use raft_clients::{Clients, ConnectError};
 use raft_connection::Answer;
+use raft_core::raft_packed::Packed;
+use raft_core::raft_packed_server::Written;
 use raft_core::{Config, CoreError, FrameError, OpenedCore, RaftCore, RequestError};
-use raft_executor::Executor;
+use raft_executor::{Executor, KeyValue};
 use raft_frames::LogId;
 use raft_machine::{Outcome, Query};
 use raft_node::given::Given;
 use raft_state::Items;
-use raft_store::Entry;
 use std::alloc::{AllocError, Global};
-use std::num::NonZeroUsize;
 
 /// A replicated key-value service at one server, without input and output.
 #[derive(Drop)]
 pub struct Service {
     alloc: Global,
-    id: u64,
-    sessions: NonZeroUsize,
+    id: LogId,
     intake: Intake,
     executor: Executor,
     clients: Clients,
@@ -67,8 +67,8 @@ fn open_core(
     config: &Config,
     id: &LogId,
     log: &[u8],
-) -> Result<OpenedCore, OpenError>
-    ensures { IfOk result (λ opened. Begins given id.now log.now opened) }
+) -> Result<OpenedCore<KeyValue>, OpenError>
+    ensures { IfOk result (λ opened. Begins application state given id.now log.now opened) }
 {
     match RaftCore::open(alloc, given, config, id, log) {
         Ok(opened) => Ok(opened),
@@ -127,8 +127,8 @@ fn executed_answer(
 }
 
 impl Service {
-    /// Opens a service on its server's log, which may be empty. The state machine starts empty: entries are executed from the
-    /// first on.
+    /// Opens a service on its server's log, which may be empty. The state machine goes on from what the log's snapshot has: entries
+    /// behind that are executed.
     pub fn open(alloc: Global, settings: Settings, log: &[u8]) -> Result<OpenedService, OpenError>
         ensures { IfOk result (λ opened. Opens settings log.now opened) }
     {
@@ -139,15 +139,14 @@ impl Service {
             connections,
             addresses,
             clients,
-            sessions,
         } = settings;
-        let executor = Executor::new(alloc, sessions)?;
-        let OpenedCore { core, end } = open_core(alloc, given, &config, &id, log)?;
+        let OpenedCore { core, end, applied } = open_core(alloc, given, &config, &id, log)?;
+        let mut executor = Executor::new(alloc);
+        executor.install(applied);
         Ok(OpenedService {
             service: Service {
                 alloc,
-                id: id.node,
-                sessions,
+                id,
                 intake: Intake::new(alloc, core, addresses),
                 executor,
                 clients: Clients::new(alloc, connections, clients),
@@ -159,7 +158,7 @@ impl Service {
     /// Gives the server the first entry of a new cluster. One server of the cluster does so, once.
     pub fn initialize(&mut self) -> Result<(), CoreError>
         ensures rest { self.new ≡ with_core self.old self.new.intake.core }
-        ensures ok { OnOk result (Moves (Initialize ∷ []) self.old.intake.core self.new.intake.core) }
+        ensures ok { OnOk result (Moves application (Initialize ∷ []) self.old.intake.core self.new.intake.core) }
     {
         self.intake.core.initialize()
     }
@@ -178,7 +177,7 @@ impl Service {
     /// Time went by, in milliseconds; `random` is a random number, and `now` the time in milliseconds since the Unix epoch. If the
     /// state machine's moment is later, since this clock or another server's went back, keys expire by that.
     pub fn tick(&mut self, elapsed: u64, random: u64, now: u64) -> Result<Vec<Output>, CoreError>
-        ensures { IfOk result (λ outputs. Calls Ticks (at_time now self.old) self.new outputs.items) }
+        ensures { IfOk result (λ outputs. Calls (Ticks application) (at_time now self.old) self.new outputs.items) }
     {
         self.intake.time = now.max(self.executor.moment());
         let done = self.intake.core.tick(elapsed, random)?;
@@ -187,7 +186,7 @@ impl Service {
 
     /// Takes the bytes of a frame from a peer. Refused as [`RaftCore::receive`].
     pub fn receive(&mut self, bytes: &[u8]) -> Result<Vec<Output>, FrameError>
-        ensures ok { IfOk result (λ outputs. Calls (Receives bytes.now) self.old self.new outputs.items) }
+        ensures ok { IfOk result (λ outputs. Calls (Receives application state bytes.now) self.old self.new outputs.items) }
         ensures err { IfErr result (λ e. IsRefusal e → self.new ≡ self.old) }
     {
         let done = self.intake.core.receive(bytes)?;
@@ -196,16 +195,23 @@ impl Service {
 
     /// Proposes what waits, and hands out records, as [`RaftCore::write`].
     pub fn write(&mut self) -> Result<Vec<Output>, CoreError>
-        ensures { IfOk result (λ outputs. Calls Writes self.old self.new outputs.items) }
+        ensures { IfOk result (λ outputs. Calls (Writes application state) self.old self.new outputs.items) }
     {
         let done = self.intake.core.write()?;
         Ok(self.deliver_all(done)?)
     }
 
+    /// Begins a new log, if the old one is long, as [`RaftCore::begin_log`].
+    pub fn begin_log(&mut self) -> Option<Written>
+        ensures { BeginsLog self.old result self.new }
+    {
+        self.intake.core.begin_log(&self.id)
+    }
+
     /// The log is on disk up to this position: what its records say is done, entries are executed, and clients are answered.
     /// What waits for no record leaves too, as [`RaftCore::flushed`].
     pub fn flushed(&mut self, position: u64) -> Result<Vec<Output>, CoreError>
-        ensures { IfOk result (λ outputs. Calls (Releases position) self.old self.new outputs.items) }
+        ensures { IfOk result (λ outputs. Calls (Releases application state position) self.old self.new outputs.items) }
     {
         let done = self.intake.core.flushed(position)?;
         Ok(self.deliver_all(done)?)
@@ -247,7 +253,7 @@ impl Service {
     pub fn status(&self) -> Result<Status, AllocError> {
         Status::of(
             self.alloc,
-            self.id,
+            self.id.node,
             &self.executor,
             self.clients.len(),
             self.intake.len(),
@@ -327,18 +333,17 @@ impl Service {
         Ok(())
     }
 
-    /// Puts what these entries make, from the first on, in place of the state machine.
-    fn install(&mut self, entries: &[Entry]) -> Result<(), AllocError>
-        ensures { OnOk result (Machine (executed_all (begun (non_zero_usize_get self.old.sessions)) entries.now) self.old self.new) }
+    /// Puts a snapshot's state in place of the state machine's.
+    fn install(&mut self, snapshot: Packed<KeyValue>)
+        ensures { Machine (installed snapshot) self.old self.new }
     {
-        self.executor = Executor::new(self.alloc, self.sessions)?;
-        self.executor.execute_all(entries)
+        self.executor.install(snapshot);
     }
 
     /// Does what an output of the server says, or hands it on.
     fn deliver(
         &mut self,
-        output: raft_core::Output,
+        output: raft_core::Output<KeyValue>,
         answered: &mut Vec<u64>,
         outputs: &mut Vec<Output>,
     ) -> Result<(), AllocError>
@@ -349,7 +354,10 @@ impl Service {
             raft_core::Output::Append { bytes, end } => {
                 push(Output::Append { bytes, end }, outputs)
             }
-            raft_core::Output::Install { entries } => self.install(entries.as_slice()),
+            raft_core::Output::Install(snapshot) => {
+                self.install(snapshot);
+                Ok(())
+            }
             raft_core::Output::Execute(entry) => self.executor.execute(&entry),
             raft_core::Output::Reply(reply) => self.reply(reply, answered),
             raft_core::Output::Read(reply) => self.reply_read(reply, answered),
@@ -359,7 +367,7 @@ impl Service {
     /// Does what outputs of the server say, in their order.
     fn deliver_each(
         &mut self,
-        done: Vec<raft_core::Output>,
+        done: Vec<raft_core::Output<KeyValue>>,
         answered: &mut Vec<u64>,
         outputs: &mut Vec<Output>,
     ) -> Result<(), AllocError>
@@ -372,7 +380,10 @@ impl Service {
     }
 
     /// Does what outputs of the server say, in their order; then the clients that were answered are served.
-    fn deliver_all(&mut self, done: Vec<raft_core::Output>) -> Result<Vec<Output>, AllocError>
+    fn deliver_all(
+        &mut self,
+        done: Vec<raft_core::Output<KeyValue>>,
+    ) -> Result<Vec<Output>, AllocError>
         ensures { IfOk result (λ outputs. Handles done.items self.old self.new outputs.items) }
     {
         let mut answered = Vec::new(self.alloc);

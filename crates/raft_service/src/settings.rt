@@ -5,7 +5,6 @@ use raft_frames::LogId;
 use raft_node::given::Given;
 use raft_state::Items;
 use std::collections::BTreeMap;
-use std::num::NonZeroUsize;
 
 /// Where clients reach a server.
 #[derive(PartialEq, Eq, Debug, Drop)]
@@ -30,6 +29,4 @@ pub struct Settings {
     pub addresses: BTreeMap<u64, Address>,
     /// The most clients that are connected.
     pub clients: usize,
-    /// For how many sessions the state machine remembers the last answer. Each server of a cluster has the same number.
-    pub sessions: NonZeroUsize,
 }

@@ -1,8 +1,11 @@
 -- What a call of a host does.
 use Rattle.std.specs.Prelude.{ℕ, ◌≡◌, ◌-◌, drop, min, take, length, List, [], ◌∷◌, ◌++◌, Option, Some, None}
-use Rattle.raft_core.specs.Calls.{Moves, Receives, Releases, Ticks, Writes}
+use Rattle.raft_service.specs.raft_core.Calls.{Moves, Receives, Releases, Ticks, Writes}
+use Rattle.raft_executor.specs.KeyValue.{application}
+use Rattle.raft_machine.specs.Bytes.{state}
 use Rattle.raft_node.specs.declared.act.Act.TheVariants as act
-use Rattle.raft_service.specs.Calls.{Calls, Feeds, Joins, Leaves, Opens, at_time, with_core}
+use Rattle.raft_service.specs.raft_packed_server.declared.batch.Written.{Written}
+use Rattle.raft_service.specs.Calls.{BeginsLog, Calls, Feeds, Joins, Leaves, Opens, at_time, with_core}
 use Rattle.raft_service.specs.declared.output.Output as service_output
 use Rattle.raft_service.specs.declared.service.OpenedService.{OpenedService}
 use Rattle.raft_service.specs.declared.service.Service.{Service}
@@ -10,7 +13,7 @@ use Rattle.raft_service.specs.declared.settings.Settings as service_settings
 use Rattle.service_host.specs.declared.frames.OutputKind.TheVariants as kind
 use Rattle.service_host.specs.declared.host.Host.{Host}
 use Rattle.service_host.specs.declared.inputs.Input.{Input}
-use Rattle.service_host.specs.declared.inputs.Input.TheVariants.{Settings, Open, Peer, Tick, Connect, Client, Disconnect, Write, Flushed, Initialize, Members, Status}
+use Rattle.service_host.specs.declared.inputs.Input.TheVariants.{BeginLog, Settings, Open, Peer, Tick, Connect, Client, Disconnect, Write, Flushed, Initialize, Members, Status}
 use Rattle.service_host.specs.Frames.{framed, frames}
 use Rattle.service_host.specs.Inputs.{IsInput}
 
@@ -27,21 +30,27 @@ pub record Feeding (client : ℕ) (bytes : List ℕ) (old new : Service) (out : 
 
 -- the service is given the first entry
 pub record Begun (old new : Service) (out : List ℕ) : Type 0 where
-  pub moves : Moves (act.Initialize ∷ []) old.intake.core new.intake.core
+  pub moves : Moves application (act.Initialize ∷ []) old.intake.core new.intake.core
   pub rest : new ≡ with_core old new.intake.core
   pub quiet : out ≡ []
+
+-- a new log, if one is begun: where it ends, and its bytes
+abbrev pub replaced : Option Written → List ℕ
+replaced None = []
+replaced (Some w) = framed kind.Replace w.end w.bytes.items
 
 -- what an input does at a service that is open
 abbrev pub Does : Input → Service → Service → List ℕ → Type 0
 Does (Settings given) old new out = ⊥
 Does (Open log) old new out = ⊥
-Does (Peer frame) old new out = Puts (Calls (Receives frame.now)) old new out
-Does (Tick elapsed random now) old new out = Puts (Calls Ticks) (at_time now old) new out
+Does (Peer frame) old new out = Puts (Calls (Receives application state frame.now)) old new out
+Does (Tick elapsed random now) old new out = Puts (Calls (Ticks application)) (at_time now old) new out
 Does (Connect client) old new out = Joins client old new × (out ≡ [])
 Does (Client client sent) old new out = Feeding client sent.now old new out
 Does (Disconnect client) old new out = Leaves client old new × (out ≡ [])
-Does Write old new out = Puts (Calls Writes) old new out
-Does (Flushed position) old new out = Puts (Calls (Releases position)) old new out
+Does Write old new out = Puts (Calls (Writes application state)) old new out
+Does BeginLog old new out = (written : Option Written) × BeginsLog old written new × (out ≡ replaced written)
+Does (Flushed position) old new out = Puts (Calls (Releases application state position)) old new out
 Does Initialize old new out = Begun old new out
 Does (Members voters learners) old new out = (new ≡ old) × (out ≡ [])
 Does Status old new out = new ≡ old

@@ -2,7 +2,6 @@
 
 use raft_state::Items;
 use std::alloc::{AllocError, Global};
-use std::num::NonZeroUsize;
 
 /// Why nothing was read.
 #[derive(Clone, Copy, PartialEq, Eq, Debug)]
@@ -50,11 +49,6 @@ impl<'a> Cursor<'a> {
     /// A number of things.
     pub(crate) fn size(&mut self) -> Result<usize, Unread> {
         Ok(self.number()? as usize)
-    }
-
-    /// A number of things, of which there is one at least.
-    pub(crate) fn some(&mut self) -> Result<NonZeroUsize, Unread> {
-        NonZeroUsize::new(self.size()?).ok_or(Unread::Malformed)
     }
 
     /// A port.

@@ -2,7 +2,7 @@
 
 ghost use Rattle.std.specs.Prelude.{◌≤◌};
 
-use raft_core::{CoreError, FrameError, RequestError};
+use raft_service::raft_core::{CoreError, FrameError, RequestError};
 use raft_service::{ConnectError, OpenError};
 use std::alloc::AllocError;
 use thiserror::Error;

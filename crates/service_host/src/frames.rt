@@ -26,6 +26,8 @@ pub enum OutputKind {
     Error,
     /// The service is open: how many bytes of the log are kept.
     Opened,
+    /// The bytes of a new log, which take the old one's place; it ends at the number.
+    Replace,
 }
 
 impl OutputKind {
@@ -42,6 +44,7 @@ impl OutputKind {
             OutputKind::Status => 6,
             OutputKind::Error => 7,
             OutputKind::Opened => 8,
+            OutputKind::Replace => 9,
         }
     }
 }

@@ -2,13 +2,14 @@
 
 ghost use Rattle.std.specs.Prelude.{◌≡◌, ◌≤◌, ◌++◌, [], IfOk, OnOk, length, take, drop, min};
 ghost use Rattle.service_host.specs.Frames.{frames};
-ghost use Rattle.service_host.specs.Host.{Does, Feeding, unread};
+ghost use Rattle.service_host.specs.Host.{Does, Feeding, replaced, unread};
 
 use crate::error::HostError;
 use crate::frames::{OutputKind, write_all, write_output, write_status};
 use crate::inputs::{Input, input_of};
 use crate::settings::read_settings;
-use raft_core::FrameError;
+use raft_service::raft_core::FrameError;
+use raft_service::raft_packed_server::Written;
 use raft_service::{Fed, OpenedService, Output, Service, Settings};
 use std::alloc::{AllocError, Global};
 
@@ -63,6 +64,17 @@ fn put(outputs: Vec<Output>, out: &mut Vec<u8>) -> Result<(), HostError>
     Ok(())
 }
 
+/// Adds a new log, if one was begun.
+fn replace(written: Option<Written>, out: &mut Vec<u8>) -> Result<(), HostError>
+    requires { out.old.items ≡ [] }
+    ensures { OnOk result (out.new.items ≡ replaced written) }
+{
+    if let Some(Written { bytes, end }) = written {
+        write_output(out, OutputKind::Replace, end, &bytes)?;
+    }
+    Ok(())
+}
+
 /// Hands an input to the service.
 fn serve(
     alloc: Global,
@@ -93,6 +105,7 @@ fn serve(
             now,
         } => put(service.tick(elapsed, random, now)?, out),
         Input::Write => put(service.write()?, out),
+        Input::BeginLog => replace(service.begin_log(), out),
         Input::Flushed(position) => put(service.flushed(position)?, out),
     }
 }

@@ -33,6 +33,8 @@ pub enum Input<'a> {
     Disconnect(u64),
     /// The disk is free.
     Write,
+    /// The disk is free, and a new log may take the old one's place.
+    BeginLog,
     /// The log is on disk up to this position.
     Flushed(u64),
     /// The server gets the first entry of a new cluster.
@@ -86,6 +88,7 @@ fn refusal_of(unread: Unread) -> HostError {
 /// | 10 | initialize | | | |
 /// | 11 | members | | | voters and learners, each behind how many there are |
 /// | 12 | status | | | |
+/// | 13 | begin a log | | | |
 pub fn input_of(
     alloc: Global,
     number: u32,
@@ -118,6 +121,7 @@ pub fn input_of(
             Ok(Input::Members { voters, learners })
         }
         12 => Ok(Input::Status),
+        13 => Ok(Input::BeginLog),
         _ => Err(HostError::BadInput),
     }
 }

@@ -4,16 +4,16 @@ use crate::bytes::{Cursor, Unread};
 use crate::error::HostError;
 use raft_answers::Limits;
 use raft_command::EngineConfig;
-use raft_core::{Config, PeerLimits};
 use raft_frames::LogId;
 use raft_node::given::Given;
+use raft_service::raft_core::{Config, PeerLimits};
 use raft_service::{Address, Settings};
 use raft_state::{Items, Membership, SnapshotPolicy, sorted_ids};
 use std::alloc::Global;
 use std::collections::BTreeMap;
 
 /// The version of the settings' form.
-const VERSION: u64 = 1;
+const VERSION: u64 = 2;
 
 /// The servers of a cluster: their ids, and where clients reach them.
 #[derive(Drop)]
@@ -62,15 +62,25 @@ fn read_membership(alloc: Global, cursor: &mut Cursor<'_>) -> Result<Membership<
     Ok(Membership::new(alloc, groups, Vec::new(alloc))?)
 }
 
-/// Spans of time, and how many entries a message has.
+/// When a snapshot is built: after so many entries, or never.
+fn read_policy(cursor: &mut Cursor<'_>) -> Result<SnapshotPolicy, Unread> {
+    match cursor.number()? {
+        0 => Ok(SnapshotPolicy::Never),
+        entries => Ok(SnapshotPolicy::LogsSinceLast(entries)),
+    }
+}
+
+/// Spans of time, how many entries a message has, and which are kept behind a snapshot.
 fn read_engine(cursor: &mut Cursor<'_>, id: u64) -> Result<EngineConfig<u64>, Unread> {
     let election_timeout = cursor.number()?;
     let lease = cursor.number()?;
     let max_payload_entries = cursor.number()?;
+    let snapshot_policy = read_policy(cursor)?;
+    let kept_entries = cursor.number()?;
     Ok(EngineConfig::new(
         id,
-        SnapshotPolicy::Never,
-        0,
+        snapshot_policy,
+        kept_entries,
         1,
         max_payload_entries,
         election_timeout,
@@ -111,6 +121,7 @@ fn read_config(cursor: &mut Cursor<'_>) -> Result<Config, Unread> {
     let patience = cursor.number()?;
     let request_timeout = cursor.number()?;
     let catch_up = cursor.number()?;
+    let log_bytes = cursor.number()?;
     let limits = read_limits(cursor)?;
     let peers = read_peers(cursor)?;
     Ok(Config {
@@ -119,6 +130,7 @@ fn read_config(cursor: &mut Cursor<'_>) -> Result<Config, Unread> {
         patience,
         request_timeout,
         catch_up,
+        log_bytes,
         limits,
         peers,
     })
@@ -167,7 +179,6 @@ fn read_all(alloc: Global, cursor: &mut Cursor<'_>) -> Result<Settings, Unread> 
     let config = read_config(cursor)?;
     let connections = read_connections(cursor)?;
     let clients = cursor.size()?;
-    let sessions = cursor.some()?;
     cursor.end()?;
     Ok(Settings {
         id: LogId { cluster, node },
@@ -180,25 +191,26 @@ fn read_all(alloc: Global, cursor: &mut Cursor<'_>) -> Result<Settings, Unread> 
         connections,
         addresses,
         clients,
-        sessions,
     })
 }
 
 /// The settings whose bytes these are: numbers of eight bytes, and bytes behind their number. In this order:
 ///
-/// 1. the form's version, 1; the cluster's number, the server's id
+/// 1. the form's version, 2; the cluster's number, the server's id
 /// 2. how many servers there are or may ever be, and of each its id, and the host (bytes) and port at which clients reach it
 /// 3. how many voters the cluster begins with, and their ids
-/// 4. the election timeout and the lease, in moments; the most entries of a message
+/// 4. the election timeout and the lease, in moments; the most entries of a message; after how many entries a snapshot is built, or
+///    0 for never; how many of the entries that it covers are kept
 /// 5. the greatest jitter of an election timeout, how often a leader sends heartbeats, how long it waits for a peer's answer, how
-///    long a request waits for its answer, all in moments; how many entries a new voter's log may lack
+///    long a request waits for its answer, all in moments; how many entries a new voter's log may lack; after how many bytes a log
+///    is replaced by a new one
 /// 6. the most bytes of a request's entry, of those that wait, the most requests, and from how many bytes on a batch is full
 /// 7. the most bytes of a peer's frame, after how many bytes that wait to be written frames are refused, and by how much a term
 ///    may jump
 /// 8. of a client the most words of a request, bytes of a word, bytes that wait to be read, requests that wait, and commands of a
 ///    transaction
 /// 9. 1 and the secret that clients must say (bytes), or 0; what INFO answers (bytes)
-/// 10. the most clients, and for how many sessions the last answer is remembered, one at least
+/// 10. the most clients
 pub fn read_settings(alloc: Global, bytes: &[u8]) -> Result<Settings, HostError> {
     let mut cursor = Cursor::new(alloc, bytes);
     match read_all(alloc, &mut cursor) {

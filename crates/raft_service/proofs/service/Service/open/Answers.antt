@@ -6,7 +6,8 @@ returns c = record {
   server = c.in_ok-core.field-0;
   begins = c.in_ok-core.ensures;
   end = refl;
-  intake = c.new-2.ensures;
-  executed = c.in_ok-executor.ensures;
-  clients = c.new-3.ensures;
+  intake = c.new.ensures;
+  named = refl;
+  executed = c.install.ensures;
+  clients = c.new-2.ensures;
 }

@@ -1,0 +1,159 @@
+//! The key-value state machine, as each server keeps it and sends it to others.
+
+ghost use Rattle.std.specs.Prelude.{◌≡◌, IfOk, OnOk};
+ghost use Rattle.raft_machine.specs.Commands.{answer};
+ghost use Rattle.raft_machine.specs.Machine.{started, state_of};
+ghost use Rattle.raft_executor.specs.KeyValue.{ran, request_at, request_in, state_in};
+ghost use Rattle.raft_executor.specs.declared.key_value.TheConstants.{SESSIONS};
+
+use raft_codec::{DecodeError, Reader};
+use raft_machine::{Machine, Outcome, Query, Reply};
+use raft_request_codec::decode_request;
+use raft_store::{Entry, Payload, Value};
+use std::alloc::{AllocError, Global};
+use std::marker::Model;
+use std::num::NonZeroUsize;
+
+/// For how many sessions the last answer is remembered. It is part of the state, and so the same at each server.
+pub const SESSIONS: usize = 10_000;
+
+/// A map of byte strings with client sessions: what the requests in the entries make of it.
+#[derive(Drop)]
+pub struct KeyValue {
+    alloc: Global,
+    /// Nothing before the first request, so that a new one allocates nothing.
+    machine: Option<Machine>,
+}
+
+impl Model for KeyValue {
+    ghost use Rattle.raft_machine.specs.Machine.{State};
+    ghost use Rattle.raft_executor.specs.KeyValue.{state_code, state_in};
+
+    ghost Value = { State };
+
+    ghost coded = { state_code };
+
+    ghost view = { λ k. state_in k.machine };
+}
+
+/// A machine without keys and sessions.
+fn start(alloc: Global) -> Result<Machine, AllocError>
+    ensures { IfOk result (λ machine. state_of machine ≡ started SESSIONS) }
+{
+    Machine::new(alloc, NonZeroUsize::new(SESSIONS).unwrap())
+}
+
+/// The machine, which is made if there is none yet.
+fn machine_or_start(alloc: Global, machine: Option<Machine>) -> Result<Machine, AllocError>
+    ensures { IfOk result (λ made. state_of made ≡ state_in machine) }
+{
+    match machine {
+        Some(machine) => Ok(machine),
+        None => start(alloc),
+    }
+}
+
+/// What comes of a value's bytes: nothing if they are no request.
+fn run(
+    alloc: Global,
+    machine: &mut Option<Machine>,
+    bytes: &[u8],
+) -> Result<Option<Outcome>, AllocError>
+    ensures { IfOk result (λ outcome. (state_in machine.new, outcome) ≡ ran (state_in machine.old) (request_at bytes.now)) }
+{
+    match decode_request(alloc, bytes) {
+        Ok(request) => {
+            let mut running = machine_or_start(alloc, machine.take())?;
+            let outcome = running.apply(alloc, request)?;
+            *machine = Some(running);
+            Ok(Some(outcome))
+        }
+        Err(DecodeError::OutOfMemory) => Err(AllocError),
+        Err(DecodeError::Malformed { .. }) => Ok(None),
+    }
+}
+
+impl KeyValue {
+    /// Runs the request of an entry, and gives what comes of it: nothing if the entry holds none. Out of memory, nothing is promised of the
+    /// state.
+    pub fn execute(&mut self, payload: &Payload) -> Result<Option<Outcome>, AllocError>
+        ensures { IfOk result (λ outcome. (self.new, outcome) ≡ ran self.old (request_in payload.now)) }
+    {
+        match payload {
+            Payload::Value(Value::Bytes(bytes)) => {
+                run(self.alloc, &mut self.machine, bytes.as_slice())
+            }
+            _ => Ok(None),
+        }
+    }
+
+    /// The moment of the state, in milliseconds since the Unix epoch: it never goes back.
+    pub fn moment(&self) -> u64
+        ensures { result ≡ self.now.space.moment }
+    {
+        match &self.machine {
+            Some(machine) => machine.moment(),
+            None => 0,
+        }
+    }
+
+    /// What a query answers now.
+    pub fn query(&self, query: &Query) -> Result<Reply, AllocError>
+        ensures { IfOk result (λ reply. reply ≡ answer self.now.space query.now) }
+    {
+        match &self.machine {
+            Some(machine) => machine.query(self.alloc, query),
+            None => start(self.alloc)?.query(self.alloc, query),
+        }
+    }
+}
+
+impl raft_packed::Machine for KeyValue {
+    ghost use Rattle.raft_machine.specs.Bytes.{state};
+    ghost use Rattle.raft_machine.specs.BytesLaws.{state_is};
+    ghost use Rattle.raft_executor.specs.KeyValue.{application};
+
+    ghost application = { application };
+
+    ghost codec = { state };
+
+    ghost is_codec = { state_is };
+
+    fn new(alloc: Global) -> KeyValue {
+        KeyValue {
+            alloc,
+            machine: None,
+        }
+    }
+
+    fn apply(&mut self, entry: &Entry) -> Result<(), AllocError> {
+        self.execute(&entry.payload)?;
+        Ok(())
+    }
+
+    fn copy(&self) -> Result<KeyValue, AllocError> {
+        let machine = match &self.machine {
+            Some(machine) => Some(machine.copy(self.alloc)?),
+            None => None,
+        };
+        Ok(KeyValue {
+            alloc: self.alloc,
+            machine,
+        })
+    }
+
+    fn encode(&self, out: &mut Vec<u8>) -> Result<(), AllocError> {
+        match &self.machine {
+            Some(machine) => machine.write(out),
+            None => start(self.alloc)?.write(out),
+        }
+    }
+
+    fn decode(reader: &mut Reader<'_>) -> Result<KeyValue, DecodeError> {
+        let machine = Machine::read(reader)?;
+        Ok(KeyValue {
+            alloc: reader.allocator(),
+            machine: Some(machine),
+        })
+    }
+}
