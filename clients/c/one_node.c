@@ -50,18 +50,18 @@ static void put_out(void *node) {
 }
 
 int main(void) {
-    static const uint64_t limits[] = {1000, 1000, 256, 1000, 100, 1000, 5000, 100, 1 << 20, 16 << 20, 65536, 1 << 20,
+    static const uint64_t limits[] = {1000, 1000, 256, 0, 0, 1000, 100, 1000, 5000, 100, 64 << 20, 1 << 20, 16 << 20, 65536, 1 << 20,
                                       512 << 20, 64 << 20, 1ull << 32, 1 << 20, 1 << 20, 2 << 20, 1024, 1000, 0};
     static const uint64_t now[] = {1700000000000};
     static const char request[] = "SET a 1\r\nINCR a\r\n";
     void *node;
-    if (wachelpo_version() != 1 || wachelpo_node(&node) != 0) return 1;
-    number(1), number(7), number(1);                    /* version, cluster, id */
+    if (wachelpo_version() != 2 || wachelpo_node(&node) != 0) return 1;
+    number(2), number(7), number(1);                    /* version, cluster, id */
     number(1), number(1), text("127.0.0.1"), number(6379); /* one node, and where clients reach it */
     number(1), number(1);                               /* the first voters */
     for (size_t place = 0; place < sizeof limits / 8; place++) number(limits[place]);
     text("");
-    number(100), number(100); /* clients, sessions */
+    number(100); /* clients */
     call(node, WACHELPO_SETTINGS, 0, settings, settings_count);
     call(node, WACHELPO_OPEN, 0, NULL, 0);
     call(node, WACHELPO_TICK, 1, now, 8);

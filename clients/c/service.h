@@ -20,7 +20,7 @@
 #include <stdint.h>
 
 /* The version of this header. */
-#define WACHELPO_SERVICE_VERSION 1
+#define WACHELPO_SERVICE_VERSION 2
 
 /* Inputs: what `first`, `second` and the bytes of a call are. A number of bytes is eight bytes, the lowest first. */
 enum wachelpo_input {
@@ -36,7 +36,8 @@ enum wachelpo_input {
                                 before WRITE and after it, with what was handed in last, or 0 */
     WACHELPO_INITIALIZE = 10, /* one server, once: begins the cluster */
     WACHELPO_MEMBERS = 11,   /* bytes: how many voters, each id, how many learners, each id */
-    WACHELPO_STATUS = 12     /* puts out STATUS */
+    WACHELPO_STATUS = 12,    /* puts out STATUS */
+    WACHELPO_BEGIN_LOG = 13  /* nothing is on its way to the disk: may put out REPLACE, once the log is long */
 };
 
 /* Outputs: one behind another, each its kind (4 bytes), the number of bytes of its body (4), a number (8), and its body. */
@@ -51,7 +52,9 @@ enum wachelpo_output {
                                 ? is 0 and 0, or 1 and the number. Role, leader, term and members are those of the entries that were
                                 executed last */
     WACHELPO_OUT_ERROR = 7,  /* number: the code that the call returned, body: a text */
-    WACHELPO_OUT_OPENED = 8  /* number: how many bytes of the log are kept: the others are cut off, and that is synced, first of all */
+    WACHELPO_OUT_OPENED = 8, /* number: how many bytes of the log are kept: the others are cut off, and that is synced, first of all */
+    WACHELPO_OUT_REPLACE = 9 /* body: a new log, which takes the old one's place, whole and synced, before anything is appended; number: where
+                                it ends. FLUSHED names places of the new log from then on */
 };
 
 /* What a call returns. */
@@ -72,19 +75,20 @@ enum wachelpo_code {
 /* Settings: numbers of eight bytes, the lowest first, and bytes behind their number, in this order. Times are in moments, which
  * are as long as the caller's ticks say: 0.1 ms, say, since a query that adds nothing to the log waits for one.
  *
- *   1                                         the version of this form
+ *   2                                         the version of this form
  *   cluster, own id
  *   how many servers there are or may ever be; of each its id, and the host (bytes) and port at which clients reach it
  *   how many voters the cluster begins with, and each id
- *   election timeout, lease, most entries of a message
+ *   election timeout, lease, most entries of a message, after how many entries a snapshot is built (0: never), how many of the entries
+ *       that it covers are kept
  *   most jitter of an election timeout, between heartbeats, until a peer's answer, until a request's answer, entries that a new voter
- *       may lack
+ *       may lack, bytes after which a log is replaced
  *   bytes of a request's entry, bytes of those that wait, most requests that wait, bytes from which on a batch is full
  *   bytes of a frame, bytes that wait to be written, greatest jump of a term
  *   of a client: words of a request, bytes of a word, bytes that wait to be read, requests that wait, commands of a transaction
  *   0, or 1 and what clients must say (bytes)
  *   what INFO answers (bytes)
- *   most clients, for how many sessions the last answer is remembered (at least 1)
+ *   most clients
  *
  * The entries of a message, each with as many bytes as a request's may have, are fewer than the bytes of a frame. */
 

@@ -20,6 +20,8 @@ pub struct Cluster {
     addresses: BTreeMap<u64, (SocketAddr, SocketAddr)>,
     /// From which node to which one.
     ways: BTreeMap<(u64, u64), (SocketAddr, Arc<Way>)>,
+    /// What each node is started with besides.
+    pub options: Vec<String>,
     children: BTreeMap<u64, Child>,
 }
 
@@ -64,6 +66,7 @@ impl Cluster {
             voters,
             addresses,
             ways,
+            options: Vec::new(),
             children: BTreeMap::new(),
         })
     }
@@ -130,6 +133,7 @@ impl Cluster {
                 .arg(format!("{other}={peers},{}", self.address(*other)));
         }
         self.common(&mut command);
+        command.args(&self.options);
         let child = command.stdin(Stdio::null()).stderr(log).spawn()?;
         self.children.insert(id, child);
         Ok(())

@@ -4,7 +4,7 @@ use crate::cluster::Cluster;
 use crate::random::Random;
 use std::fs;
 use std::io;
-use std::path::Path;
+use std::path::{Path, PathBuf};
 use std::thread;
 use std::time::{Duration, Instant};
 
@@ -60,10 +60,14 @@ impl Harm {
 
     /// Does it to a folder; `other` is that of another node. Whether it could be done.
     fn harm(self, folder: &Path, other: &Path, random: &mut Random) -> io::Result<bool> {
-        let log = folder.join("log.000000");
+        let log = files_of_log(folder)?;
         match self {
             Harm::Bit | Harm::Page | Harm::Begin => {
-                let mut bytes = fs::read(&log)?;
+                // the first file of a new folder is empty
+                let Some(log) = log.iter().find(|path| fs::metadata(path).is_ok_and(|it| it.len() > 0)) else {
+                    return Ok(false);
+                };
+                let mut bytes = fs::read(log)?;
                 let end = bytes.iter().rposition(|byte| *byte != 0).map_or(0, |last| last + 1);
                 if end < 8 * PAGE {
                     return Ok(false);
@@ -74,9 +78,12 @@ impl Harm {
                     Harm::Page => bytes[place / PAGE * PAGE..][..PAGE].fill(0),
                     _ => bytes[..32].reverse(),
                 }
-                fs::write(&log, bytes)?;
+                fs::write(log, bytes)?;
             }
-            Harm::Missing => fs::remove_file(&log)?,
+            Harm::Missing => match log.first() {
+                Some(first) => fs::remove_file(first)?,
+                None => return Ok(false),
+            },
             Harm::Identity => {
                 let text = fs::read(folder.join("identity"))?;
                 fs::write(folder.join("identity"), &text[..text.len() / 2])?;
@@ -95,13 +102,36 @@ impl Harm {
     }
 }
 
-/// Copies a folder of a node, which may run: a file that is being made gets its name once it is whole.
+/// How often a log was replaced by the one that a file is of, and which of its files that is.
+fn place(name: &str) -> Option<(u64, u64)> {
+    let numbers = name.strip_prefix("log.")?;
+    let (generation, number) = numbers.split_once('.').unwrap_or(("0", numbers));
+    Some((generation.parse().ok()?, number.parse().ok()?))
+}
+
+/// The files of a folder's newest log, in their order.
+fn files_of_log(folder: &Path) -> io::Result<Vec<PathBuf>> {
+    let mut files = Vec::new();
+    for entry in fs::read_dir(folder)? {
+        let entry = entry?;
+        files.extend(entry.file_name().to_str().and_then(place).map(|it| (it, entry.path())));
+    }
+    files.sort();
+    let newest = files.last().map(|((generation, _), _)| *generation);
+    files.retain(|((generation, _), _)| Some(*generation) == newest);
+    Ok(files.into_iter().map(|(_, path)| path).collect())
+}
+
+/// Copies a folder of a node, which may run: a file that is being made gets its name once it is whole, and those of an old log go.
 fn copy(from: &Path, to: &Path) -> io::Result<()> {
     fs::create_dir(to)?;
     for entry in fs::read_dir(from)? {
         let name = entry?.file_name();
         if !name.to_string_lossy().ends_with(".new") {
-            fs::copy(from.join(&name), to.join(&name))?;
+            match fs::copy(from.join(&name), to.join(&name)) {
+                Err(error) if error.kind() != io::ErrorKind::NotFound => return Err(error),
+                _ => {}
+            }
         }
     }
     Ok(())

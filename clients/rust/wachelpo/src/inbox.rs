@@ -1,6 +1,7 @@
 //! What waits for a node.
 
 use crate::batch::Arrivals;
+use crate::disk::Position;
 use crate::node::Request;
 use crate::Error;
 use std::io;
@@ -14,7 +15,7 @@ const LITTLE: usize = 16 << 10;
 /// What came of bytes for the log.
 pub(crate) struct Flush {
     /// Where the log ends, if all before it is on disk.
-    pub result: io::Result<u64>,
+    pub result: io::Result<Position>,
     pub took: Duration,
     /// The buffer that the bytes were in.
     pub bytes: Vec<u8>,

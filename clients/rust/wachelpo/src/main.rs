@@ -36,6 +36,19 @@ fn serve(options: &Options) -> Result<(), Box<dyn Error>> {
     if let Some(milliseconds) = options.election_timeout {
         builder = builder.election_timeout(milliseconds);
     }
+    if let Some(count) = options.snapshot_entries {
+        builder = builder.snapshot_entries(count);
+    }
+    if let Some(count) = options.kept_entries {
+        builder = builder.kept_entries(count);
+    }
+    let log = match options.log_bytes {
+        Some(count) => {
+            builder = builder.log_bytes(count);
+            folder.log_for(count)
+        }
+        None => folder.log(),
+    };
     let mut limits = ConnectionLimits::default();
     limits.idle = options.client_timeout;
     tcp = tcp.limits(limits);
@@ -52,7 +65,7 @@ fn serve(options: &Options) -> Result<(), Box<dyn Error>> {
     if let Some(address) = options.metrics_address()? {
         tcp = tcp.metrics(address);
     }
-    let node = builder.open(folder.log())?;
+    let node = builder.open(log)?;
     let begins = node.is_new() && options.first_voter(&members) == Some(id);
     let tcp = tcp.start(folder, &node)?;
     let running = node.start(tcp)?;

@@ -1,5 +1,6 @@
 //! What is counted of a node, in the text form of Prometheus (version 0.0.4), and as a page for people.
 
+use crate::disk::Position;
 use crate::{NodeId, Role, Status};
 use std::fmt::{self, Write};
 use std::sync::atomic::{AtomicU64, Ordering};
@@ -86,8 +87,8 @@ pub struct Metrics {
     pub(crate) flushes: Histogram,
     pub(crate) answers: Histogram,
     pub(crate) log_bytes: Counter,
-    /// Up to which byte the log is on disk.
-    pub(crate) log_end: Counter,
+    /// How far the log is on disk.
+    log: Mutex<Position>,
     pub(crate) frames_sent: Counter,
     pub(crate) frames_received: Counter,
     pub(crate) frames_dropped: Counter,
@@ -111,7 +112,7 @@ impl Metrics {
             flushes: Histogram::default(),
             answers: Histogram::default(),
             log_bytes: Counter::default(),
-            log_end: Counter::default(),
+            log: Mutex::default(),
             frames_sent: Counter::default(),
             frames_received: Counter::default(),
             frames_dropped: Counter::default(),
@@ -139,6 +140,16 @@ impl Metrics {
         *last = Some(status);
     }
 
+    /// Notes how far the log is on disk.
+    pub(crate) fn set_log(&self, position: Position) {
+        *self.log.lock().unwrap_or_else(PoisonError::into_inner) = position;
+    }
+
+    /// How far the log is on disk.
+    pub(crate) fn log(&self) -> Position {
+        *self.log.lock().unwrap_or_else(PoisonError::into_inner)
+    }
+
     /// What the node said of itself last, within half a second.
     pub fn status(&self) -> Option<Status> {
         self.status.lock().unwrap_or_else(PoisonError::into_inner).clone()
@@ -148,7 +159,7 @@ impl Metrics {
         [
             (
                 "log_bytes_total",
-                "Bytes that were appended to the log.",
+                "Bytes that were written to the log.",
                 &self.log_bytes,
             ),
             (
@@ -196,6 +207,7 @@ impl Metrics {
     }
 
     fn gauges(&self) -> Vec<(&'static str, &'static str, u64)> {
+        let log = self.log();
         let mut gauges = vec![
             ("connections", "Clients that are connected.", self.connections.get()),
             (
@@ -203,10 +215,11 @@ impl Metrics {
                 "Bytes for clients that wait until these read.",
                 self.client_bytes_waiting.get(),
             ),
+            ("log_end", "The position up to which the log is on disk.", log.end),
             (
-                "log_end",
-                "The position up to which the log is on disk.",
-                self.log_end.get(),
+                "log_generation",
+                "How often the log was replaced by a new one.",
+                log.generation,
             ),
             ("peers", "Nodes that this one is connected to.", self.peers.get()),
         ];

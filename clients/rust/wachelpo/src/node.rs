@@ -1,6 +1,7 @@
 //! A node: the service on a thread, or on one that serves ([`Inbox::serve`]), and the log on another one.
 
 use crate::batch::{Arrival, Deliveries, Delivery};
+use crate::disk::Position;
 use crate::inbox::{Flush, Handler, Inbox, Mail};
 use crate::metrics::Metrics;
 use crate::service::{Input, Output, Refusal, Service, MOMENT};
@@ -20,6 +21,8 @@ const TICK: Duration = Duration::from_millis(10);
 const CALM: usize = 4 << 10;
 /// How many bytes of a client are handed in at a time, so that no client holds up the others for long.
 const PIECE: usize = 64 << 10;
+/// A buffer above this size is given back once its bytes are on disk.
+const KEPT: usize = 4 << 20;
 /// How often its status is noted for metrics.
 const NOTED: Duration = Duration::from_millis(500);
 
@@ -77,7 +80,10 @@ impl Node {
         }
         disk.cut(end).map_err(Error::Disk)?;
         let metrics = Metrics::new(settings.id);
-        metrics.log_end.set(end);
+        metrics.set_log(Position {
+            generation: disk.generation(),
+            end,
+        });
         Ok(Node {
             service,
             disk,
@@ -115,12 +121,12 @@ impl Node {
     /// - [`Error::Io`]: a thread can't be started.
     pub fn start<N: Network + 'static>(self, network: N) -> Result<Running, Error> {
         let handle = self.handle();
-        let (appends, to_append) = channel();
+        let (writes, to_write) = channel();
         let disk = Arc::new(Mutex::new(self.disk));
-        let (inbox, log) = (self.inbox.clone(), disk.clone());
-        thread::Builder::new()
+        let (inbox, shared) = (self.inbox.clone(), disk.clone());
+        let log = thread::Builder::new()
             .name("log".into())
-            .spawn(move || append_all(&log, &to_append, &inbox))
+            .spawn(move || write_all(&shared, &to_write, &inbox))
             .map_err(Error::Io)?;
         let random = seed().map_err(Error::Io)?;
         let (service, clock, inbox, metrics) = (self.service, self.clock, self.inbox, self.metrics);
@@ -135,8 +141,8 @@ impl Node {
                 noted: Instant::now(),
                 network,
                 disk,
-                appends,
-                append: None,
+                writes,
+                next: None,
                 metrics,
                 random,
                 is_flushing: false,
@@ -153,7 +159,7 @@ impl Node {
             .name("node".into())
             .spawn(runs)
             .map_err(Error::Io)?;
-        Ok(Running { handle, thread })
+        Ok(Running { handle, thread, log })
     }
 }
 
@@ -161,6 +167,7 @@ impl Node {
 pub struct Running {
     handle: Handle,
     thread: JoinHandle<Result<(), Error>>,
+    log: JoinHandle<()>,
 }
 
 impl Running {
@@ -171,7 +178,10 @@ impl Running {
 
     /// Waits until the node has ended, and says why it did.
     pub fn wait(self) -> Result<(), Error> {
-        self.thread.join().unwrap_or(Err(Error::Ended))
+        let end = self.thread.join().map_err(|_| Error::Ended)?;
+        // what it may still write stands in the way of a node that is started on the same log
+        let _ = self.log.join();
+        end
     }
 
     /// Ends the node: as a kill does, but that its threads end. What was answered is on disk.
@@ -229,28 +239,41 @@ fn seed() -> std::io::Result<u64> {
     Ok(u64::from_le_bytes(bytes))
 }
 
-/// Bytes for the log's end.
-struct Append {
+/// What bytes do to the log.
+#[derive(Clone, Copy, PartialEq, Eq)]
+enum Change {
+    Append,
+    Replace,
+}
+
+/// Bytes for the log.
+struct Write {
+    change: Change,
     bytes: Vec<u8>,
+    /// Where the log ends then.
     end: u64,
 }
 
-fn append(disk: &Mutex<Box<dyn Disk>>, Append { bytes, end }: Append) -> Flush {
+fn write(disk: &Mutex<Box<dyn Disk>>, Write { change, bytes, end }: Write) -> Flush {
     let began = Instant::now();
     let mut disk = disk.lock().unwrap_or_else(PoisonError::into_inner);
-    let result = disk.append(&bytes).map(|()| end);
+    let result = match change {
+        Change::Append => disk.append(&bytes),
+        Change::Replace => disk.replace(&bytes),
+    };
+    let generation = disk.generation();
     Flush {
-        result,
+        result: result.map(|()| Position { generation, end }),
         took: began.elapsed(),
         bytes,
     }
 }
 
-/// Appends to the log until nobody gives anything more, or until it fails: a log that has failed isn't tried again, since what is on
+/// Writes to the log until nobody gives anything more, or until it fails: a log that has failed isn't tried again, since what is on
 /// disk isn't known then.
-fn append_all(disk: &Mutex<Box<dyn Disk>>, appends: &Receiver<Append>, inbox: &Inbox) {
-    while let Ok(next) = appends.recv() {
-        let flush = append(disk, next);
+fn write_all(disk: &Mutex<Box<dyn Disk>>, writes: &Receiver<Write>, inbox: &Inbox) {
+    while let Ok(next) = writes.recv() {
+        let flush = write(disk, next);
         let has_failed = flush.result.is_err();
         inbox.flushed(flush);
         if has_failed {
@@ -273,9 +296,9 @@ struct Runner<N> {
     network: N,
     disk: Arc<Mutex<Box<dyn Disk>>>,
     /// To the thread of the log.
-    appends: Sender<Append>,
-    /// What is to be appended next.
-    append: Option<Append>,
+    writes: Sender<Write>,
+    /// What is to be written next.
+    next: Option<Write>,
     metrics: Arc<Metrics>,
     random: u64,
     /// Whether bytes are on their way to the disk.
@@ -298,13 +321,14 @@ impl<N: Network> Runner<N> {
         if let Some(flush) = mail.flush.take() {
             self.flushed(flush)?;
         }
+        // first, since what a request expires by counts from the time that was told last, however long ago
+        self.tick()?;
         let is_calm = mail.arrivals.byte_count() < CALM;
         for (arrival, bytes) in mail.arrivals.iter() {
             self.arrives(arrival, bytes)?;
         }
         mail.arrivals.clear();
         self.hand_in_rests()?;
-        self.tick()?;
         self.write(is_calm)?;
         self.hurry()?;
         for request in mail.requests.drain(..) {
@@ -328,25 +352,33 @@ impl<N: Network> Runner<N> {
     }
 
     /// Lets the service write, unless bytes are on their way already. While little comes, this thread flushes them itself, since that
-    /// is sooner done than said to another one; else what comes meanwhile is handled.
+    /// is sooner done than said to another one; else what comes meanwhile is handled, as it is while a new log is written.
     fn write(&mut self, is_calm: bool) -> Result<(), Error> {
         while !self.is_flushing {
             self.let_out()?;
-            self.call(Input::Write)?;
-            let Some(next) = self.append.take() else {
+            let Some(next) = self.next_write()? else {
                 return self.let_out();
             };
-            if is_calm && self.inbox.is_empty() {
+            if is_calm && next.change == Change::Append && self.inbox.is_empty() {
                 self.deliver();
-                let flush = append(&self.disk, next);
+                let flush = write(&self.disk, next);
                 self.flushed(flush)?;
             } else {
                 self.is_flushing = true;
                 // (if its thread has ended, it has said why)
-                let _ = self.appends.send(next);
+                let _ = self.writes.send(next);
             }
         }
         Ok(())
+    }
+
+    /// A new log, if the one that is there is long; or else what is to be appended.
+    fn next_write(&mut self) -> Result<Option<Write>, Error> {
+        self.call(Input::BeginLog)?;
+        if self.next.is_none() {
+            self.call(Input::Write)?;
+        }
+        Ok(self.next.take())
     }
 
     /// What waits for nothing on disk leaves, as a commit: no bytes more are there.
@@ -416,12 +448,14 @@ impl<N: Network> Runner<N> {
     }
 
     fn flushed(&mut self, flush: Flush) -> Result<(), Error> {
-        let end = flush.result.map_err(Error::Disk)?;
-        self.metrics.log_end.set(end);
+        let position = flush.result.map_err(Error::Disk)?;
+        self.metrics.set_log(position);
         self.metrics.flushes.observe(flush.took);
         self.spare = flush.bytes;
+        self.spare.clear();
+        self.spare.shrink_to(KEPT);
         self.is_flushing = false;
-        self.call(Input::Flushed(end))
+        self.call(Input::Flushed(position.end))
     }
 
     /// Tells the service how much time went by. After a break of this thread, as of a process that was stopped, that is a heartbeat's time
@@ -509,7 +543,7 @@ impl<N: Network> Runner<N> {
 
     /// Calls the service, and takes what it puts out.
     fn take(&mut self, input: Input<'_>) -> Result<Came, Error> {
-        let mut came = Came::default();
+        let (mut came, mut next) = (Came::default(), None);
         let outputs = match self.service.call(input)? {
             Ok(outputs) => outputs,
             Err(refusal) => {
@@ -524,14 +558,19 @@ impl<N: Network> Runner<N> {
                 Output::Close(client) => self.deliveries.push(Delivery::Close(client), &[]),
                 Output::Taken(count) => came.taken = count,
                 Output::Status(status) => came.status = Some(status),
-                Output::Append { end, bytes } => {
-                    let mut copy = std::mem::take(&mut self.spare);
-                    copy.clear();
-                    copy.extend_from_slice(bytes);
-                    self.metrics.log_bytes.add(bytes.len() as u64);
-                    self.append = Some(Append { bytes: copy, end });
-                }
+                Output::Append { end, bytes } => next = Some((Change::Append, end, bytes)),
+                Output::Replace { end, bytes } => next = Some((Change::Replace, end, bytes)),
             }
+        }
+        if let Some((change, end, bytes)) = next {
+            let mut copy = std::mem::take(&mut self.spare);
+            copy.extend_from_slice(bytes);
+            self.metrics.log_bytes.add(bytes.len() as u64);
+            self.next = Some(Write {
+                change,
+                bytes: copy,
+                end,
+            });
         }
         Ok(came)
     }

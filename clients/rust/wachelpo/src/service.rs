@@ -16,7 +16,7 @@ extern "C" {
 }
 
 /// The version of the library that this is written for.
-const VERSION: u32 = 1;
+const VERSION: u32 = 2;
 /// A buffer above this size is given back after its call.
 const KEPT: usize = 4 << 20;
 
@@ -43,6 +43,7 @@ pub(crate) enum Input<'a> {
     Initialize,
     Members(&'a Members),
     Status,
+    BeginLog,
 }
 
 /// What comes of it.
@@ -50,6 +51,7 @@ pub(crate) enum Input<'a> {
 pub(crate) enum Output<'a> {
     Frame { to: NodeId, bytes: &'a [u8] },
     Append { end: u64, bytes: &'a [u8] },
+    Replace { end: u64, bytes: &'a [u8] },
     Client { client: ClientId, bytes: &'a [u8] },
     Close(ClientId),
     Taken(usize),
@@ -80,6 +82,7 @@ mod kind {
     pub const TAKEN: u32 = 5;
     pub const STATUS: u32 = 6;
     pub const OPENED: u32 = 8;
+    pub const REPLACE: u32 = 9;
 }
 
 mod code {
@@ -236,6 +239,7 @@ impl Service {
             Input::Initialize => self.exchange(10, 0, 0, &[]),
             Input::Members(members) => self.exchange(11, 0, 0, &members_bytes(members)),
             Input::Status => self.exchange(12, 0, 0, &[]),
+            Input::BeginLog => self.exchange(13, 0, 0, &[]),
         };
         match code {
             0 => Ok(Ok(Outputs(&self.out[..self.count]))),
@@ -269,6 +273,12 @@ impl<'a> Iterator for Outputs<'a> {
                 }
                 kind::APPEND => {
                     return Some(Output::Append {
+                        end: number,
+                        bytes: body,
+                    })
+                }
+                kind::REPLACE => {
+                    return Some(Output::Replace {
                         end: number,
                         bytes: body,
                     })
@@ -336,7 +346,7 @@ fn split_address(address: &str) -> Result<(&str, u16), Error> {
 fn settings_bytes(settings: &Builder) -> Result<Vec<u8>, Error> {
     let limits = &settings.limits;
     let mut writer = Writer::default();
-    writer.number(1);
+    writer.number(2); // the form
     writer.number(settings.cluster);
     writer.number(settings.id.0);
     writer.size(settings.members.len());
@@ -357,11 +367,14 @@ fn settings_bytes(settings: &Builder) -> Result<Vec<u8>, Error> {
     writer.moments(settings.election_timeout);
     writer.moments(settings.election_timeout); // the lease
     writer.size(limits.message_entries);
+    writer.number(settings.snapshot_entries);
+    writer.number(settings.kept_entries);
     writer.moments(settings.election_timeout); // the jitter
     writer.moments(settings.heartbeat);
     writer.moments(settings.patience);
     writer.moments(settings.request_timeout);
     writer.number(100); // how many entries a new voter's log may lack
+    writer.number(settings.log_bytes);
     writer.size(limits.value_bytes);
     writer.size(limits.waiting_bytes);
     writer.size(limits.all_requests);
@@ -383,7 +396,6 @@ fn settings_bytes(settings: &Builder) -> Result<Vec<u8>, Error> {
     }
     writer.bytes(settings.info.as_bytes());
     writer.size(limits.clients);
-    writer.size(limits.sessions);
     Ok(writer.0)
 }
 
@@ -443,6 +455,39 @@ mod tests {
         assert_eq!(split_address("db1:6379").unwrap(), ("db1", 6379));
         assert_eq!(split_address("[::1]:6379").unwrap(), ("::1", 6379));
         assert!(split_address("db1").is_err() && split_address("db1:x").is_err());
+    }
+
+    #[test]
+    fn settings_stand_where_the_library_reads_them() {
+        let builder = Builder::new(NodeId(1)).snapshot_entries(7).kept_entries(8).log_bytes(9);
+        let bytes = settings_bytes(&builder).unwrap();
+        let mut numbers = Numbers(&bytes);
+        let first = [(); 18].map(|()| numbers.number().unwrap());
+        let servers = [2, builder.cluster, 1, 0, 0];
+        let engine = [10_000, 10_000, 256, 7, 8];
+        let spans = [10_000, 1_000, 10_000, 50_000, 100, 9];
+        assert_eq!(first[..5], servers);
+        assert_eq!(first[5..10], engine);
+        assert_eq!(first[10..16], spans);
+        assert_eq!(first[16..], [1 << 20, 16 << 20]);
+    }
+
+    #[test]
+    fn a_new_log_is_put_out_beside_others() {
+        let mut bytes = Vec::new();
+        for (kind, number, body) in [(kind::REPLACE, 3, &b"new"[..]), (kind::APPEND, 5, b"er")] {
+            bytes.extend_from_slice(&u32::to_le_bytes(kind));
+            bytes.extend_from_slice(&(body.len() as u32).to_le_bytes());
+            bytes.extend_from_slice(&u64::to_le_bytes(number));
+            bytes.extend_from_slice(body);
+        }
+        let mut outputs = Outputs(&bytes);
+        assert!(matches!(
+            outputs.next(),
+            Some(Output::Replace { end: 3, bytes: b"new" })
+        ));
+        assert!(matches!(outputs.next(), Some(Output::Append { end: 5, bytes: b"er" })));
+        assert!(outputs.next().is_none());
     }
 
     #[test]

@@ -32,8 +32,6 @@ pub struct Limits {
     pub frame_bytes: usize,
     /// After how many bytes that wait for the disk other nodes' frames are refused.
     pub unwritten_bytes: usize,
-    /// For how many sessions the last answer is remembered.
-    pub sessions: usize,
 }
 
 impl Default for Limits {
@@ -50,7 +48,6 @@ impl Default for Limits {
             message_entries: 256,
             frame_bytes: 512 << 20,
             unwritten_bytes: 64 << 20,
-            sessions: 10_000,
         }
     }
 }
@@ -82,8 +79,14 @@ pub struct Builder {
     pub(crate) request_timeout: Duration,
     pub(crate) password: Option<Vec<u8>>,
     pub(crate) info: String,
+    pub(crate) snapshot_entries: u64,
+    pub(crate) kept_entries: u64,
+    pub(crate) log_bytes: u64,
     pub(crate) limits: Limits,
 }
+
+/// After how many bytes a log is replaced, if nothing else is said.
+const LOG_BYTES: u64 = 64 << 20;
 
 impl Builder {
     pub(crate) fn new(id: NodeId) -> Self {
@@ -101,6 +104,9 @@ impl Builder {
                 "# Server\r\nserver:wachelpo\r\nwachelpo_version:{}\r\nredis_mode:standalone\r\n",
                 env!("CARGO_PKG_VERSION")
             ),
+            snapshot_entries: 10_000,
+            kept_entries: 1_000,
+            log_bytes: LOG_BYTES,
             limits: Limits::default(),
         }
     }
@@ -144,6 +150,27 @@ impl Builder {
     /// What a client must say by `AUTH` before anything else. By default nothing.
     pub fn password(mut self, password: impl Into<Vec<u8>>) -> Self {
         self.password = Some(password.into());
+        self
+    }
+
+    /// After how many entries that were executed since the last snapshot the next one is made; 0: never. By default 10,000. It is written
+    /// to the log once as many bytes came behind the last one as that has. All nodes of a cluster have the same.
+    pub fn snapshot_entries(mut self, count: u64) -> Self {
+        self.snapshot_entries = count;
+        self
+    }
+
+    /// How many entries that a snapshot has are kept, for nodes that lack few: one that lacks more is sent the snapshot. By default 1,000.
+    /// All nodes of a cluster have the same.
+    pub fn kept_entries(mut self, count: u64) -> Self {
+        self.kept_entries = count;
+        self
+    }
+
+    /// After how many bytes the log is replaced by a new one, which begins with the last snapshot and the entries behind it; later if it
+    /// would be more than half as long. By default 64 MiB. A folder's files should suit it: [`Folder::log_for`](crate::Folder::log_for).
+    pub fn log_bytes(mut self, count: u64) -> Self {
+        self.log_bytes = count;
         self
     }
 

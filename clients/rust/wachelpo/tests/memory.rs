@@ -508,6 +508,13 @@ fn what_has_expired_stays_so_though_the_time_of_day_goes_back() {
     // a span counts from the greatest time that the log knows
     assert_eq!(ask("SET b 1 PX 10000"), "+OK\r\n");
     assert_eq!(ask("GET b"), "$1\r\n1\r\n");
+    // of a node that was stopped for two hours: from when the request came
+    set.0.fetch_add(7_200_000, Ordering::Relaxed);
+    set.1.fetch_add(7_200_000, Ordering::Relaxed);
+    assert_eq!(member.ask("SET c 1 PX 10000\r\n"), "+OK\r\n");
+    set.0.fetch_add(20, Ordering::Relaxed);
+    thread::sleep(Duration::from_millis(50));
+    assert_eq!(member.ask("GET c\r\n"), "$1\r\n1\r\n");
     member.running.stop().unwrap();
 }
 
@@ -529,6 +536,14 @@ impl Disk for Failing {
             0..1000 => Ok(()),
             _ => Err(io::Error::other("the disk is broken")),
         }
+    }
+
+    fn replace(&mut self, bytes: &[u8]) -> io::Result<()> {
+        self.0.replace(bytes)
+    }
+
+    fn generation(&self) -> u64 {
+        self.0.generation()
     }
 }
 

@@ -53,6 +53,12 @@ fn wait_for<T>(what: &str, mut value: impl FnMut() -> Option<T>) -> T {
     }
 }
 
+/// How many bytes the files of a folder have.
+fn bytes_in(folder: &Path) -> u64 {
+    let length = |entry: std::io::Result<fs::DirEntry>| entry.unwrap().metadata().unwrap().len();
+    fs::read_dir(folder).unwrap().map(length).sum()
+}
+
 /// What any server answers that doesn't send its client on.
 fn ask(cluster: &Cluster, words: &[&str]) -> Reply {
     let ask_one = |id: &u64| {
@@ -185,6 +191,96 @@ fn a_log_with_other_bytes_is_refused_or_lacks_its_last_record() {
             assert!(fs::read(&path).unwrap() == bytes);
         }
     }
+}
+
+/// Sets keys and counts at others by turns, so many times in all.
+fn write_by_turns(cluster: &Cluster, writes: usize, value: &str) {
+    let keys: Vec<(String, String)> = (0..100).map(|key| (format!("k{key}"), format!("n{key}"))).collect();
+    let pairs: Vec<_> = keys
+        .iter()
+        .flat_map(|(set, count)| [vec!["SET", set, value], vec!["INCR", count]])
+        .collect();
+    let mut connection = Connection::open(cluster.address(1), LONG).unwrap();
+    for _ in 0..writes / pairs.len() {
+        let replies = connection.ask(&pairs);
+        let replies = replies.unwrap_or_else(|error| panic!("{error}: {}", cluster.errors()));
+        for reply in replies {
+            assert!(!matches!(reply, Reply::Error(_)), "{reply:?}");
+        }
+    }
+}
+
+/// So many servers, whose logs are short.
+fn begin_short(name: &str, count: u64) -> Cluster {
+    let mut cluster = Cluster::new(Path::new(PROGRAM), &folder(name), count, count).unwrap();
+    let options = "--snapshot-entries 100 --kept-entries 10 --log-bytes 65536";
+    cluster.options = options.split(' ').map(String::from).collect();
+    for id in cluster.ids.clone() {
+        cluster.start(id).unwrap();
+    }
+    cluster
+}
+
+#[test]
+#[ignore = "the library must begin new logs"]
+fn a_log_stays_short_and_all_is_there_after_kills() {
+    let mut cluster = begin_short("bounded", 1);
+    for (round, value) in (1..=2).map(|round| (round, round.to_string().repeat(1000))) {
+        set(&cluster, "begun", "1");
+        write_by_turns(&cluster, 5_000, &value);
+        cluster.kill(1).unwrap();
+        cluster.start(1).unwrap();
+        for key in 0..100 {
+            assert_eq!(get(&cluster, &format!("k{key}")).as_deref(), Some(&value[..]));
+            let count = (round * 25).to_string();
+            assert_eq!(get(&cluster, &format!("n{key}")), Some(count));
+        }
+        // (the values that were set alone are 2.5 MB a round)
+        let left = bytes_in(&cluster.folder(1));
+        assert!(left < 1 << 20, "{left}");
+    }
+}
+
+/// Whether a log in a folder has taken the place of another one.
+fn has_new_log(folder: &Path) -> bool {
+    let is_new = |entry: std::io::Result<fs::DirEntry>| {
+        let name = entry.unwrap().file_name().into_string().unwrap();
+        name.starts_with("log.0") && name.matches('.').count() == 2
+    };
+    fs::read_dir(folder).unwrap().any(is_new)
+}
+
+#[test]
+#[ignore = "the library must begin new logs"]
+fn nodes_that_have_begun_new_logs_are_admitted_again() {
+    let mut cluster = begin_short("anew", 3);
+    let mut count = 0;
+    wait_for("each has a new log", || {
+        count += 1;
+        set(&cluster, &format!("k{}", count % 10), &"v".repeat(1000));
+        let has_new = |id: &u64| has_new_log(&cluster.folder(*id));
+        cluster.ids.iter().all(has_new).then_some(())
+    });
+    for id in cluster.ids.clone() {
+        cluster.kill(id).unwrap();
+        cluster.start(id).unwrap();
+        set(&cluster, "last", &id.to_string());
+        wait_for("it is connected, and knows it", || {
+            let status = cluster.ask(&["status"])?;
+            let lines: Vec<&str> = status.lines().collect();
+            let applied = |line: &&str| {
+                line.split(' ')
+                    .find_map(|word| word.strip_prefix("applied=")?.parse::<u64>().ok())
+            };
+            let all: Option<Vec<u64>> = lines.iter().map(applied).collect();
+            all.filter(|all| all.len() == 3 && all.iter().min() == all.iter().max())
+        });
+    }
+    for id in cluster.ids.clone() {
+        let text = fs::read_to_string(cluster.errors_of(id)).unwrap();
+        assert!(!text.contains("its log is shorter than it was"), "{text}");
+    }
+    assert_eq!(get(&cluster, "last").as_deref(), Some("3"));
 }
 
 #[test]

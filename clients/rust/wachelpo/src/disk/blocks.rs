@@ -7,7 +7,7 @@ use std::os::unix::fs::{FileExt, OpenOptionsExt};
 use std::path::Path;
 
 /// How many bytes a block has: as many as file systems and disks want at least, or a multiple.
-const BLOCK: usize = 4096;
+pub(super) const BLOCK: usize = 4096;
 /// How many bytes are written at a time.
 const ROOM: usize = 1 << 20;
 

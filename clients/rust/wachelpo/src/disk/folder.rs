@@ -1,6 +1,6 @@
 //! The folder of a node: whose it is, who uses it, and which folders other nodes have.
 
-use crate::disk::Segments;
+use crate::disk::{segments, Segments};
 use crate::{FolderError, NodeId};
 use std::collections::BTreeMap;
 use std::fs::{self, File, OpenOptions, TryLockError};
@@ -27,8 +27,8 @@ impl Presence {
 
 /// The folder of a node, which no other process uses meanwhile.
 ///
-/// It has `identity` (whose it is, and how often it was started), `peers` (which folders other nodes have), `log.000000` and so on,
-/// and `lock`.
+/// It has `identity` (whose it is, and how often it was started), `peers` (which folders other nodes have), the files of the log
+/// ([`Segments`]), and `lock`.
 pub struct Folder {
     path: PathBuf,
     presence: Presence,
@@ -170,11 +170,9 @@ impl Folder {
             Err(TryLockError::Error(error)) => return Err(failed(error)),
         }
         let starts = identity.starts + 1;
-        if !path.join("log.000000").exists() {
-            return Err(FolderError::Damaged(
-                path.join("log.000000"),
-                "the log is missing".into(),
-            ));
+        let first = segments::first_file(path).map_err(failed)?;
+        if !first.exists() {
+            return Err(FolderError::Damaged(first, "the log is missing".into()));
         }
         replace(path, "identity", &Identity { starts, ..identity }.to_text()).map_err(failed)?;
         let peers = match text_of(path, "peers")? {
@@ -197,6 +195,11 @@ impl Folder {
     /// The log in the folder.
     pub fn log(&self) -> Segments {
         Segments::new(&self.path)
+    }
+
+    /// The log in the folder, in files that suit one that is replaced after so many bytes ([`Builder::log_bytes`](crate::Builder::log_bytes)).
+    pub fn log_for(&self, log_bytes: u64) -> Segments {
+        Segments::for_length(&self.path, log_bytes)
     }
 
     /// What this node says of itself.
@@ -227,6 +230,7 @@ impl Folder {
 #[cfg(test)]
 mod tests {
     use super::*;
+    use crate::disk::Disk;
     use crate::scratch::Scratch;
 
     const NODE: NodeId = NodeId(3);
@@ -254,7 +258,18 @@ mod tests {
         fs::remove_file(path.join("log.000000")).unwrap();
         assert!(refusal(path, NODE, "a").ends_with("the log is missing"));
         fs::write(path.join("log.000000"), []).unwrap();
-        assert_eq!(Folder::open(path, NODE, "a").unwrap().presence().starts, 2);
+        let second = Folder::open(path, NODE, "a").unwrap();
+        assert_eq!(second.presence().starts, 2);
+        let mut log = second.log_for(0);
+        log.read().unwrap();
+        log.cut(0).unwrap();
+        log.replace(b"new").unwrap();
+        drop((log, second));
+        let third = Folder::open(path, NODE, "a").unwrap();
+        assert!(third.log().read().unwrap().starts_with(b"new\0"));
+        drop(third);
+        fs::remove_file(path.join("log.000001.000000")).unwrap();
+        assert!(refusal(path, NODE, "a").ends_with("log.000001.000000: the log is missing"));
         fs::write(path.join("identity"), "node 3\n").unwrap();
         assert!(refusal(path, NODE, "a").contains("identity: it isn't what a node has written"));
     }

@@ -8,7 +8,7 @@ pub use folder::{Folder, Presence};
 pub use segments::Segments;
 
 use std::io;
-use std::sync::{Arc, Mutex, PoisonError};
+use std::sync::{Arc, Mutex, MutexGuard, PoisonError};
 
 /// A log of bytes, which are appended and then stay.
 pub trait Disk: Send {
@@ -21,6 +21,43 @@ pub trait Disk: Send {
     /// Appends bytes, which are on disk once this returns: no crash of the process, the system or the machine loses them. After an
     /// error it isn't called again, since nobody knows what is on disk then.
     fn append(&mut self, bytes: &[u8]) -> io::Result<()>;
+
+    /// Begins a new log: these bytes are all of it once this returns, as surely as appended ones, and those of the old log are gone.
+    /// A crash before leaves one of the two, whole. After an error nothing is called again, as for [`Disk::append`].
+    fn replace(&mut self, bytes: &[u8]) -> io::Result<()>;
+
+    /// How often the log was replaced, over all starts: of what [`Disk::read`] found, and of what was done since. Other nodes know by it
+    /// a log that is shorter since it is a new one.
+    fn generation(&self) -> u64;
+}
+
+/// How many bytes a position has.
+pub(crate) const POSITION: usize = 16;
+
+/// How far a log has come. What the same node says later is never less, unless it has lost what it has promised.
+#[derive(Clone, Copy, PartialEq, Eq, PartialOrd, Ord, Default, Debug)]
+pub(crate) struct Position {
+    /// How often the log was replaced.
+    pub generation: u64,
+    /// Up to which byte it is on disk.
+    pub end: u64,
+}
+
+impl Position {
+    pub fn to_bytes(self) -> [u8; POSITION] {
+        let mut bytes = [0; POSITION];
+        bytes[..8].copy_from_slice(&self.generation.to_le_bytes());
+        bytes[8..].copy_from_slice(&self.end.to_le_bytes());
+        bytes
+    }
+
+    pub fn of_bytes(bytes: &[u8; POSITION]) -> Self {
+        let number = |at: usize| u64::from_le_bytes(bytes[at..at + 8].try_into().expect("it has 8"));
+        Position {
+            generation: number(0),
+            end: number(8),
+        }
+    }
 }
 
 /// A log in memory, for tests: clones of it have the same bytes, so that a node can be started again on what another has written.
@@ -34,33 +71,73 @@ pub trait Disk: Send {
 /// # Ok::<(), std::io::Error>(())
 /// ```
 #[derive(Clone, Default, Debug)]
-pub struct MemoryDisk(Arc<Mutex<Vec<u8>>>);
+pub struct MemoryDisk(Arc<Mutex<Memory>>);
+
+#[derive(Default, Debug)]
+struct Memory {
+    bytes: Vec<u8>,
+    generation: u64,
+}
 
 impl MemoryDisk {
     /// An empty log.
     pub fn new() -> Self {
         MemoryDisk::default()
     }
+
+    fn memory(&self) -> MutexGuard<'_, Memory> {
+        self.0.lock().unwrap_or_else(PoisonError::into_inner)
+    }
 }
 
 impl Disk for MemoryDisk {
     fn read(&mut self) -> io::Result<Vec<u8>> {
-        Ok(self.0.lock().unwrap_or_else(PoisonError::into_inner).clone())
+        Ok(self.memory().bytes.clone())
     }
 
     fn cut(&mut self, end: u64) -> io::Result<()> {
-        self.0
-            .lock()
-            .unwrap_or_else(PoisonError::into_inner)
-            .truncate(end as usize);
+        self.memory().bytes.truncate(end as usize);
         Ok(())
     }
 
     fn append(&mut self, bytes: &[u8]) -> io::Result<()> {
-        self.0
-            .lock()
-            .unwrap_or_else(PoisonError::into_inner)
-            .extend_from_slice(bytes);
+        self.memory().bytes.extend_from_slice(bytes);
         Ok(())
+    }
+
+    fn replace(&mut self, bytes: &[u8]) -> io::Result<()> {
+        let mut memory = self.memory();
+        memory.bytes = bytes.to_vec();
+        memory.generation += 1;
+        Ok(())
+    }
+
+    fn generation(&self) -> u64 {
+        self.memory().generation
+    }
+}
+
+#[cfg(test)]
+mod tests {
+    use super::*;
+
+    #[test]
+    fn a_log_in_memory_is_replaced_for_all_its_clones() {
+        let mut disk = MemoryDisk::new();
+        disk.append(b"old").unwrap();
+        let mut clone = disk.clone();
+        disk.replace(b"new").unwrap();
+        clone.append(b"er").unwrap();
+        assert_eq!(
+            (disk.read().unwrap(), disk.generation(), clone.generation()),
+            (b"newer".to_vec(), 1, 1)
+        );
+    }
+
+    #[test]
+    fn a_later_log_is_further_than_any_earlier_one() {
+        let at = |generation, end| Position { generation, end };
+        assert!(at(0, 7) < at(0, 8) && at(0, 8) < at(1, 0));
+        assert_eq!(Position::of_bytes(&at(3, 1 << 60).to_bytes()), at(3, 1 << 60));
     }
 }

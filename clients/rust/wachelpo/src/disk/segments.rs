@@ -1,26 +1,35 @@
 //! A log in files of a folder, one behind the other, which are filled with zeros ahead: a write into bytes that are there already
 //! changes no metadata, so that `fdatasync` writes the bytes alone. One file more is always ready, which is what is left once the disk
 //! is full.
+//!
+//! A new log is written aside, into the file that is ready, and takes the old one's place by the name that this gets: a start reads the
+//! files of the newest log, and removes all others.
 
-use crate::disk::blocks::Blocks;
+use crate::disk::blocks::{Blocks, BLOCK};
 use crate::disk::Disk;
 use std::fs::{self, File, OpenOptions};
 use std::io::{self, Read, Seek, SeekFrom, Write};
 use std::os::fd::AsRawFd;
 use std::os::unix::fs::FileExt;
 use std::path::{Path, PathBuf};
+use std::sync::atomic::{AtomicUsize, Ordering};
 use std::sync::mpsc::{sync_channel, Receiver, SyncSender, TrySendError};
+use std::sync::Arc;
 use std::thread::{self, JoinHandle};
 use std::time::Duration;
 
-/// How many bytes a file has.
+/// How many bytes a file has, and at least if its log is to be short.
 const SEGMENT: u64 = 16 << 20;
+const SHORT_SEGMENT: u64 = 64 << 10;
+/// The name of a file that isn't whole yet. What a crash leaves of it is none of a log's.
+const ASIDE: &str = "log.new";
 /// How many bytes are filled at a time.
 const CHUNK: usize = 1 << 20;
 /// How long it takes until a full disk is tried again.
 const PAUSE: Duration = Duration::from_secs(1);
 
-/// A log in files `log.000000`, `log.000001` and so on.
+/// A log in files `log.000000`, `log.000001` and so on. The first one that takes its place is in `log.000001.000000`,
+/// `log.000001.000001` and so on, the next one in `log.000002.000000`.
 ///
 /// ```
 /// use wachelpo::{Disk, Segments};
@@ -32,6 +41,8 @@ const PAUSE: Duration = Duration::from_secs(1);
 /// log.cut(0)?;
 /// log.append(b"record")?;
 /// assert!(Segments::new(&folder).read()?.starts_with(b"record\0"));
+/// log.replace(b"another one")?;
+/// assert!(Segments::new(&folder).read()?.starts_with(b"another one\0"));
 /// # std::fs::remove_dir_all(&folder)?;
 /// # Ok::<(), std::io::Error>(())
 /// ```
@@ -39,7 +50,9 @@ pub struct Segments {
     folder: PathBuf,
     /// The bytes of a file that is begun.
     size: u64,
-    /// The lengths of the files that are there.
+    /// How often the log was replaced.
+    generation: u64,
+    /// The lengths of its files that were there when it was read, or replaced.
     lengths: Vec<u64>,
     open: Option<Segment>,
     ahead: Option<Ahead>,
@@ -49,18 +62,28 @@ pub struct Segments {
 struct Ahead {
     /// None once it is to end.
     ready: Option<Receiver<io::Result<File>>>,
+    /// The number of the last file that it makes.
+    last: Arc<AtomicUsize>,
     thread: Option<JoinHandle<()>>,
 }
 
 impl Ahead {
-    fn start(folder: &Path, first: usize, size: u64) -> io::Result<Self> {
+    fn start(folder: &Path, generation: u64, first: usize, size: u64) -> io::Result<Self> {
         let (to, ready) = sync_channel(0);
-        let folder = folder.to_path_buf();
+        let last = Arc::new(AtomicUsize::new(usize::MAX));
+        let filler = Filler {
+            folder: folder.to_path_buf(),
+            generation,
+            size,
+            last: last.clone(),
+            ready: to,
+        };
         let thread = thread::Builder::new()
             .name("fill".into())
-            .spawn(move || fill_ahead(&folder, first, size, &to))?;
+            .spawn(move || filler.run(first))?;
         Ok(Ahead {
             ready: Some(ready),
+            last,
             thread: Some(thread),
         })
     }
@@ -69,6 +92,12 @@ impl Ahead {
     fn next(&self) -> io::Result<File> {
         let next = self.ready.as_ref().and_then(|ready| ready.recv().ok());
         next.unwrap_or_else(|| Err(io::Error::other("no file can be made for the log")))
+    }
+
+    /// Lets none be made behind the file of this number, which is the next one. (By its number: that the one before was taken may not
+    /// have been noticed yet.)
+    fn end_with(&self, number: usize) {
+        self.last.store(number, Ordering::SeqCst);
     }
 }
 
@@ -93,10 +122,10 @@ struct Segment {
 }
 
 impl Segment {
-    fn open(folder: &Path, file: File, number: usize, length: u64, used: u64) -> Self {
+    fn open(path: &Path, file: File, number: usize, length: u64, used: u64) -> Self {
         Segment {
             file,
-            blocks: Blocks::open(&path(folder, number), length, used),
+            blocks: Blocks::open(path, length, used),
             number,
             length,
             used,
@@ -116,32 +145,84 @@ impl Segment {
     }
 }
 
-fn path(folder: &Path, number: usize) -> PathBuf {
-    folder.join(format!("log.{number:06}"))
+/// A file of a log that is there.
+#[derive(PartialEq, Eq, PartialOrd, Ord)]
+struct Found {
+    generation: u64,
+    number: usize,
+    length: u64,
+}
+
+fn name(generation: u64, number: usize) -> String {
+    match generation {
+        0 => format!("log.{number:06}"),
+        _ => format!("log.{generation:06}.{number:06}"),
+    }
+}
+
+fn path(folder: &Path, generation: u64, number: usize) -> PathBuf {
+    folder.join(name(generation, number))
+}
+
+/// Whose file has this name, and which of them it is.
+fn parse(text: &str) -> Option<(u64, usize)> {
+    let numbers = text.strip_prefix("log.")?;
+    let (generation, number) = match numbers.split_once('.') {
+        Some((generation, number)) => (generation.parse().ok()?, number.parse().ok()?),
+        None => (0, numbers.parse().ok()?),
+    };
+    (name(generation, number) == text).then_some((generation, number))
 }
 
 fn damaged(text: String) -> io::Error {
     io::Error::new(io::ErrorKind::InvalidData, text)
 }
 
-/// The lengths of the files of a log, which have all numbers from 0 on.
-fn lengths(folder: &Path) -> io::Result<Vec<u64>> {
-    let mut found: Vec<(usize, u64)> = Vec::new();
+/// The files of all logs in a folder, those of the newest one last.
+fn files(folder: &Path) -> io::Result<Vec<Found>> {
+    let mut found = Vec::new();
     for entry in fs::read_dir(folder)? {
         let entry = entry?;
-        let name = entry.file_name();
-        let number = name.to_str().and_then(|name| name.strip_prefix("log."));
-        if let Some(number) = number.and_then(|text| text.parse().ok()) {
-            found.push((number, entry.metadata()?.len()));
+        if let Some((generation, number)) = entry.file_name().to_str().and_then(parse) {
+            let length = entry.metadata()?.len();
+            found.push(Found {
+                generation,
+                number,
+                length,
+            });
         }
     }
     found.sort_unstable();
-    for (place, (number, _)) in found.iter().enumerate() {
-        if place != *number {
-            return Err(damaged(format!("{} is missing", path(folder, place).display())));
+    Ok(found)
+}
+
+/// The newest log of a folder: no file of it is there before its first one is durably, nor is one of the log before removed.
+fn newest(files: &[Found]) -> u64 {
+    files.last().map_or(0, |file| file.generation)
+}
+
+/// Where the first file of a folder's log is, or is missing.
+pub(super) fn first_file(folder: &Path) -> io::Result<PathBuf> {
+    Ok(path(folder, newest(&files(folder)?), 0))
+}
+
+/// The lengths of the files of a log, which have all numbers from 0 on.
+fn lengths(folder: &Path, files: &[Found], generation: u64) -> io::Result<Vec<u64>> {
+    let own = files.iter().filter(|file| file.generation == generation);
+    let length = |(place, file): (usize, &Found)| {
+        if place != file.number {
+            return Err(damaged(format!(
+                "{} is missing",
+                path(folder, generation, place).display()
+            )));
         }
-    }
-    Ok(found.into_iter().map(|(_, length)| length).collect())
+        Ok(file.length)
+    };
+    own.enumerate().map(length).collect()
+}
+
+fn sync(folder: &Path) -> io::Result<()> {
+    File::open(folder)?.sync_all()
 }
 
 /// Reads a file from the disk, and not from what the system remembers of it: after a write that failed, that may be what isn't there.
@@ -154,23 +235,28 @@ fn read_from_disk(path: &Path, into: &mut Vec<u8>) -> io::Result<()> {
     Ok(())
 }
 
+fn write_zeros(mut file: &File, count: u64, mut after_each: impl FnMut() -> io::Result<()>) -> io::Result<()> {
+    let zeros = vec![0; CHUNK.min(count as usize)];
+    let mut left = count;
+    while left > 0 {
+        let count = left.min(zeros.len() as u64);
+        file.write_all(&zeros[..count as usize])?;
+        after_each()?;
+        left -= count;
+    }
+    Ok(())
+}
+
 /// Makes a file of zeros, which is there whole or not at all.
-fn fill(folder: &Path, number: usize, size: u64) -> io::Result<File> {
-    let new = folder.join("log.new");
+fn fill(folder: &Path, name: &str, size: u64) -> io::Result<File> {
+    let new = folder.join(ASIDE);
     let filled = (|| {
-        let mut file = OpenOptions::new().write(true).create(true).truncate(true).open(&new)?;
-        let zeros = vec![0; CHUNK.min(size as usize)];
-        let mut left = size;
-        while left > 0 {
-            let count = left.min(zeros.len() as u64);
-            file.write_all(&zeros[..count as usize])?;
-            // little at a time, so that the log's own writes needn't wait for all of it
-            file.sync_data()?;
-            left -= count;
-        }
+        let file = File::create(&new)?;
+        // little at a time, so that the log's own writes needn't wait for all of it
+        write_zeros(&file, size, || file.sync_data())?;
         file.sync_all()?;
-        fs::rename(&new, path(folder, number))?;
-        File::open(folder)?.sync_all()?;
+        fs::rename(&new, folder.join(name))?;
+        sync(folder)?;
         Ok(file)
     })();
     if filled.is_err() {
@@ -184,39 +270,55 @@ fn is_full(error: &io::Error) -> bool {
     matches!(error.kind(), io::ErrorKind::StorageFull | io::ErrorKind::QuotaExceeded)
 }
 
-/// Makes a file; on a full disk as soon as there is room. Whoever needs it before is told that there is none.
-fn fill_once_there_is_room(
-    folder: &Path,
-    number: usize,
+/// What the thread that makes files ahead has.
+struct Filler {
+    folder: PathBuf,
+    generation: u64,
     size: u64,
-    ready: &SyncSender<io::Result<File>>,
-) -> io::Result<File> {
-    let mut is_told = false;
-    loop {
-        let filled = fill(folder, number, size);
-        if !filled.as_ref().is_err_and(is_full) {
-            return filled;
+    last: Arc<AtomicUsize>,
+    ready: SyncSender<io::Result<File>>,
+}
+
+impl Filler {
+    /// Makes a file; on a full disk as soon as there is room. Whoever needs it before is told that there is none.
+    fn fill_once_there_is_room(&self, number: usize) -> io::Result<File> {
+        let mut is_told = false;
+        loop {
+            let filled = fill(&self.folder, &name(self.generation, number), self.size);
+            if !filled.as_ref().is_err_and(is_full) {
+                return filled;
+            }
+            if !is_told {
+                is_told = true;
+                log::error!(
+                    "log: the disk is full: the node ends once the {} bytes that are ready are used",
+                    self.size
+                );
+            }
+            match self.ready.try_send(filled) {
+                Err(TrySendError::Full(_)) => thread::sleep(PAUSE),
+                Ok(()) | Err(TrySendError::Disconnected(_)) => return Err(io::ErrorKind::StorageFull.into()),
+            }
         }
-        if !is_told {
-            is_told = true;
-            log::error!("log: the disk is full: the node ends once the {size} bytes that are ready are used");
-        }
-        match ready.try_send(filled) {
-            Err(TrySendError::Full(_)) => thread::sleep(PAUSE),
-            Ok(()) | Err(TrySendError::Disconnected(_)) => return Err(io::ErrorKind::StorageFull.into()),
+    }
+
+    /// Makes files ahead, each once the one before it is taken.
+    fn run(&self, first: usize) {
+        for number in first.. {
+            let filled = self.fill_once_there_is_room(number);
+            let has_failed = filled.is_err();
+            if self.ready.send(filled).is_err() || has_failed || number >= self.last.load(Ordering::SeqCst) {
+                return;
+            }
         }
     }
 }
 
-/// Makes files ahead, each once the one before it is taken.
-fn fill_ahead(folder: &Path, first: usize, size: u64, ready: &SyncSender<io::Result<File>>) {
-    for number in first.. {
-        let filled = fill_once_there_is_room(folder, number, size, ready);
-        let has_failed = filled.is_err();
-        if ready.send(filled).is_err() || has_failed {
-            return;
-        }
-    }
+/// A file of zeros, behind those that are used.
+struct Ready {
+    file: File,
+    number: usize,
+    length: u64,
 }
 
 impl Segments {
@@ -230,16 +332,30 @@ impl Segments {
         Segments {
             folder: folder.to_path_buf(),
             size,
+            generation: 0,
             lengths: Vec::new(),
             open: None,
             ahead: None,
         }
     }
 
+    /// A log in a folder that is replaced after about so many bytes: its next files are no larger than that wants.
+    pub(super) fn for_length(folder: &Path, length: u64) -> Self {
+        let size = (length / 4).clamp(SHORT_SEGMENT, SEGMENT);
+        Segments::with_size(folder, size.next_multiple_of(BLOCK as u64))
+    }
+
+    fn path(&self, number: usize) -> PathBuf {
+        path(&self.folder, self.generation, number)
+    }
+
+    fn segment(&self, file: File, number: usize, length: u64, used: u64) -> Segment {
+        Segment::open(&self.path(number), file, number, length, used)
+    }
+
     /// Zeroes what isn't zero of a file from a byte on.
     fn zero(&self, number: usize, from: u64) -> io::Result<File> {
-        let path = path(&self.folder, number);
-        let mut file = OpenOptions::new().read(true).write(true).open(path)?;
+        let mut file = OpenOptions::new().read(true).write(true).open(self.path(number))?;
         let mut rest = Vec::new();
         file.seek(SeekFrom::Start(from))?;
         file.read_to_end(&mut rest)?;
@@ -250,41 +366,141 @@ impl Segments {
         Ok(file)
     }
 
-    /// Waits for the file that was filled ahead.
-    fn next(&mut self) -> io::Result<Segment> {
-        let number = self.open.as_ref().map_or(0, |open| open.number + 1);
-        // a file that was there before, and was ahead then
-        if let Some(length) = self.lengths.get(number) {
-            let file = self.zero(number, 0)?;
-            return Ok(Segment::open(&self.folder, file, number, *length, 0));
-        }
+    /// The number of the file behind the one that is written.
+    fn next_number(&self) -> usize {
+        self.open.as_ref().map_or(0, |open| open.number + 1)
+    }
+
+    /// A file as zeros: one that was there before, and was ahead then; or else the next one, which is waited for.
+    fn ready(&mut self, number: usize) -> io::Result<Ready> {
+        let (file, length) = match self.lengths.get(number).copied() {
+            Some(length) => (self.zero(number, 0)?, length),
+            None => (self.ahead(number)?.next()?, self.size),
+        };
+        Ok(Ready { file, number, length })
+    }
+
+    /// The thread that makes files ahead, which is started for the file of this number if there is none.
+    fn ahead(&mut self, number: usize) -> io::Result<&Ahead> {
         let ahead = match self.ahead.take() {
             Some(ahead) => ahead,
-            None => Ahead::start(&self.folder, number, self.size)?,
+            None => Ahead::start(&self.folder, self.generation, number, self.size)?,
         };
-        let file = self.ahead.insert(ahead).next()?;
-        Ok(Segment::open(&self.folder, file, number, self.size, 0))
+        Ok(self.ahead.insert(ahead))
+    }
+
+    /// Waits for the file that was filled ahead.
+    fn next(&mut self) -> io::Result<Segment> {
+        let Ready { file, number, length } = self.ready(self.next_number())?;
+        Ok(self.segment(file, number, length, 0))
+    }
+}
+
+/// A new log takes the old one's place.
+impl Segments {
+    /// Waits for the last file that was filled ahead, and lets no other one be made. (Without one before the last a log has a gap.)
+    fn last_ready(&mut self) -> io::Result<Ready> {
+        let last = self.lengths.len().saturating_sub(1).max(self.next_number());
+        if last >= self.lengths.len() {
+            self.ahead(last)?.end_with(last);
+        }
+        let ready = self.ready(last);
+        self.ahead = None;
+        ready
+    }
+
+    /// Takes a file for the new log out of the old one, which goes on without it: it has zeros alone. Only on a disk so full that none
+    /// is ready it is one without room behind so many bytes.
+    fn set_aside(&mut self, count: u64, after: &mut impl FnMut()) -> io::Result<(File, u64)> {
+        let aside = self.folder.join(ASIDE);
+        let taken = match self.last_ready() {
+            Ok(Ready { file, number, length }) => {
+                fs::rename(self.path(number), aside)?;
+                (file, length.max(count.next_multiple_of(self.size)))
+            }
+            Err(error) if is_full(&error) => (File::create(aside)?, count.next_multiple_of(BLOCK as u64)),
+            Err(error) => return Err(error),
+        };
+        after();
+        // else a crash might leave the new log's bytes behind the old one's end
+        sync(&self.folder)?;
+        after();
+        Ok(taken)
+    }
+
+    /// Writes the new log into a file that has zeros, if it has anything, and gives that its name.
+    fn put_in_place(&self, file: &File, bytes: &[u8], length: u64, after: &mut impl FnMut()) -> io::Result<()> {
+        file.write_all_at(bytes, 0)?;
+        after();
+        let filled = file.metadata()?.len();
+        (&*file).seek(SeekFrom::Start(filled))?;
+        write_zeros(file, length.saturating_sub(filled), || Ok(()))?;
+        after();
+        file.sync_all()?;
+        after();
+        fs::rename(self.folder.join(ASIDE), path(&self.folder, self.generation + 1, 0))?;
+        after();
+        sync(&self.folder)?;
+        after();
+        Ok(())
+    }
+
+    /// Removes the files of other logs, and one that isn't whole.
+    fn remove_others(&self, after: &mut impl FnMut()) -> io::Result<()> {
+        for file in files(&self.folder)? {
+            if file.generation != self.generation {
+                fs::remove_file(path(&self.folder, file.generation, file.number))?;
+                after();
+            }
+        }
+        match fs::remove_file(self.folder.join(ASIDE)) {
+            Err(error) if error.kind() != io::ErrorKind::NotFound => Err(error),
+            _ => Ok(()),
+        }
+    }
+
+    /// [`Disk::replace`], which calls `after` behind each thing that it does to a file or the folder: a crash may come there.
+    fn replace_step_by_step(&mut self, bytes: &[u8], mut after: impl FnMut()) -> io::Result<()> {
+        let count = bytes.len() as u64;
+        let (file, length) = self.set_aside(count, &mut after)?;
+        if let Err(error) = self.put_in_place(&file, bytes, length, &mut after) {
+            // it would only take room
+            let _ = fs::remove_file(self.folder.join(ASIDE));
+            return Err(error);
+        }
+        self.generation += 1;
+        self.lengths = vec![length];
+        self.open = Some(self.segment(file, 0, length, count));
+        self.remove_others(&mut after)?;
+        // (if there is no thread for it now, there is one once it is needed)
+        self.ahead = Ahead::start(&self.folder, self.generation, 1, self.size).ok();
+        Ok(())
     }
 }
 
 impl Disk for Segments {
     fn read(&mut self) -> io::Result<Vec<u8>> {
-        self.lengths = lengths(&self.folder)?;
+        let files = files(&self.folder)?;
+        self.generation = newest(&files);
+        self.lengths = lengths(&self.folder, &files, self.generation)?;
         let mut bytes = Vec::with_capacity(self.lengths.iter().sum::<u64>() as usize);
         for number in 0..self.lengths.len() {
-            read_from_disk(&path(&self.folder, number), &mut bytes)?;
+            read_from_disk(&self.path(number), &mut bytes)?;
         }
         Ok(bytes)
     }
 
     fn cut(&mut self, end: u64) -> io::Result<()> {
+        // a log that a stop has left in its place may not be there durably yet
+        sync(&self.folder)?;
+        self.remove_others(&mut || {})?;
         let mut start = 0;
         for (number, length) in self.lengths.clone().into_iter().enumerate() {
             let used = end.saturating_sub(start).min(length);
             if used < length || number + 1 == self.lengths.len() {
                 let file = self.zero(number, used)?;
                 if self.open.is_none() {
-                    self.open = Some(Segment::open(&self.folder, file, number, length, used));
+                    self.open = Some(self.segment(file, number, length, used));
                 }
             }
             start += length;
@@ -292,7 +508,7 @@ impl Disk for Segments {
         if self.open.is_none() {
             self.open = Some(self.next()?);
         }
-        File::open(&self.folder)?.sync_all()
+        sync(&self.folder)
     }
 
     fn append(&mut self, mut bytes: &[u8]) -> io::Result<()> {
@@ -305,6 +521,14 @@ impl Disk for Segments {
             bytes = &bytes[count..];
         }
         Ok(())
+    }
+
+    fn replace(&mut self, bytes: &[u8]) -> io::Result<()> {
+        self.replace_step_by_step(bytes, || {})
+    }
+
+    fn generation(&self) -> u64 {
+        self.generation
     }
 }
 
@@ -359,8 +583,236 @@ mod tests {
     fn a_file_that_is_missing_is_told() {
         let scratch = Scratch::new("missing");
         reopened(scratch.path(), 0).append(&[7; 350]).unwrap();
-        fs::remove_file(path(scratch.path(), 1)).unwrap();
+        fs::remove_file(path(scratch.path(), 0, 1)).unwrap();
         let error = Segments::new(scratch.path()).read().unwrap_err();
         assert!(error.to_string().ends_with("log.000001 is missing"), "{error}");
+    }
+
+    #[test]
+    fn a_name_is_that_of_one_file() {
+        for (text, file) in [("log.000007", (0, 7)), ("log.000002.1234567", (2, 1_234_567))] {
+            assert_eq!((parse(text), &name(file.0, file.1)[..]), (Some(file), text));
+        }
+        for text in [
+            "log.7",
+            "log.new",
+            "log.000000.000001",
+            "log.000001.",
+            "log.+00001",
+            "lock",
+        ] {
+            assert_eq!(parse(text), None, "{text}");
+        }
+    }
+
+    #[test]
+    fn files_are_as_long_as_their_log_wants() {
+        for (log, file) in [
+            (0, 64 << 10),
+            (300_000, 77_824),
+            (64 << 20, 16 << 20),
+            (1 << 40, 16 << 20),
+        ] {
+            assert_eq!(Segments::for_length(Path::new("nowhere"), log).size, file, "{log}");
+        }
+    }
+
+    /// What a start finds is this, and zeros behind it.
+    fn assert_found(folder: &Path, bytes: &[u8], when: &str) {
+        let found = Segments::new(folder).read().expect(when);
+        assert!(found.starts_with(bytes), "{when}");
+        assert!(found[bytes.len()..].iter().all(|byte| *byte == 0), "{when}");
+    }
+
+    /// A start goes on from this, and then nothing is there but its log's files.
+    fn assert_goes_on(size: u64, folder: &Path, bytes: &[u8], when: &str) {
+        assert_found(folder, bytes, when);
+        let mut log = reopened_with(size, folder, bytes.len() as u64);
+        let more = vec![200; size as usize + 1];
+        log.append(&more).unwrap();
+        let generation = log.generation();
+        // (its thread ends first)
+        drop(log);
+        let is_its = |name: &str| parse(name).is_some_and(|(of, _)| of == generation);
+        for entry in fs::read_dir(folder).unwrap() {
+            let name = entry.unwrap().file_name().into_string().unwrap();
+            assert!(is_its(&name), "{when}: {name} is left");
+        }
+        assert_found(folder, &[bytes, &more].concat(), when);
+    }
+
+    #[test]
+    fn what_replaces_a_log_is_appended_to_and_read_over_starts() {
+        for size in [100, 8192] {
+            let scratch = Scratch::new(&format!("replaced-{size}"));
+            let folder = scratch.path();
+            let mut all = Vec::new();
+            let lengths = [3, size - 1, size, size + 1, 3 * size + 7, 1];
+            for (generation, length) in lengths.into_iter().enumerate() {
+                let mut log = reopened_with(size, folder, all.len() as u64);
+                assert_eq!(log.generation(), 2 * generation as u64);
+                log.append(&vec![1; 2 * size as usize]).unwrap();
+                log.replace(&[2; 5]).unwrap();
+                all = vec![generation as u8 + 3; length as usize];
+                log.replace(&all).unwrap();
+                assert_found(folder, &all, "replaced");
+                for count in [1, size + 50] {
+                    let bytes = vec![9; count as usize];
+                    log.append(&bytes).unwrap();
+                    all.extend(bytes);
+                }
+                drop(log);
+                assert_goes_on(size, folder, &all, "appended");
+                all.extend(vec![200; size as usize + 1]);
+            }
+        }
+    }
+
+    fn copy(from: &Path, to: &str) -> Scratch {
+        let copy = Scratch::new(to);
+        for entry in fs::read_dir(from).unwrap() {
+            let path = entry.unwrap().path();
+            fs::copy(&path, copy.path().join(path.file_name().unwrap())).unwrap();
+        }
+        copy
+    }
+
+    /// A log is replaced: what is in its folder before, and behind each thing that is done there.
+    fn steps(mut log: Segments, bytes: &[u8]) -> Vec<Scratch> {
+        let folder = log.folder.clone();
+        let label = folder.file_name().unwrap().to_string_lossy().into_owned();
+        let mut states = Vec::new();
+        let mut note = || states.push(copy(&folder, &format!("{label}-{}", states.len())));
+        log.replace_step_by_step(bytes, &mut note).unwrap();
+        states
+    }
+
+    /// How many things are done until a new log is written aside, and until it has its name, durably.
+    const WRITTEN: usize = 5;
+    const PLACED: usize = 7;
+
+    #[test]
+    fn a_crash_leaves_the_old_log_or_the_new_one_whole() {
+        // the old log is cut, so that files may be ahead that a start has found
+        for (size, old, end, new) in [
+            (100, 350, 350, 30),
+            (100, 350, 120, 777),
+            (100, 350, 120, 99),
+            (4096, 9000, 9000, 100),
+            (4096, 1, 1, 20_000),
+        ] {
+            let scratch = Scratch::new(&format!("crash-{size}-{end}-{new}"));
+            let (old, new) = (vec![7; old], vec![8; new]);
+            reopened_with(size, scratch.path(), 0).append(&old).unwrap();
+            let log = reopened_with(size, scratch.path(), end as u64);
+            let states = steps(log, &new);
+            assert!(states.len() > PLACED);
+            for (step, state) in (1..).zip(&states) {
+                // (the name is there before it is durable)
+                let bytes = if step > WRITTEN { &new } else { &old[..end] };
+                assert_goes_on(size, state.path(), bytes, &format!("{size}, {end}: step {step}"));
+            }
+        }
+    }
+
+    #[test]
+    fn what_a_crash_leaves_of_a_file_aside_is_none_of_the_log() {
+        let scratch = Scratch::new("aside");
+        let mut log = reopened(scratch.path(), 0);
+        log.append(&[7; 350]).unwrap();
+        let states = steps(log, &[8; 777]);
+        for (step, state) in (1..=WRITTEN).zip(&states) {
+            for bytes in [&[][..], &[9; 10], &[8; 400]] {
+                fs::write(state.path().join(ASIDE), bytes).unwrap();
+                assert_found(state.path(), &[7; 350], &format!("step {step}"));
+            }
+            assert_goes_on(100, state.path(), &[7; 350], &format!("step {step}"));
+        }
+    }
+
+    #[test]
+    fn a_crash_may_leave_any_files_of_the_old_log() {
+        let scratch = Scratch::new("any");
+        let mut log = reopened(scratch.path(), 0);
+        log.append(&[7; 350]).unwrap();
+        let states = steps(log, &[8; 30]);
+        let placed = states[PLACED - 1].path();
+        let mut old = files(placed).unwrap();
+        old.retain(|file| file.generation == 0);
+        assert_eq!(states.len(), PLACED + old.len());
+        for left in 0..1 << old.len() {
+            let state = copy(placed, &format!("any-{left}"));
+            let is_gone = |place: &usize| left >> place & 1 == 0;
+            for place in (0..old.len()).filter(is_gone) {
+                fs::remove_file(path(state.path(), 0, old[place].number)).unwrap();
+            }
+            assert_goes_on(100, state.path(), &[8; 30], &format!("files {left:b}"));
+        }
+    }
+
+    #[test]
+    fn a_new_log_that_has_lost_its_first_file_is_not_the_old_one() {
+        let scratch = Scratch::new("lost");
+        let mut log = reopened(scratch.path(), 0);
+        log.append(&[7; 350]).unwrap();
+        let state = &steps(log, &[8; 130])[PLACED - 1];
+        fs::write(path(state.path(), 1, 1), [0; 100]).unwrap();
+        fs::remove_file(path(state.path(), 1, 0)).unwrap();
+        let error = Segments::new(state.path()).read().unwrap_err();
+        assert!(error.to_string().ends_with("log.000001.000000 is missing"), "{error}");
+    }
+
+    #[test]
+    fn files_are_made_until_the_last_one() {
+        let scratch = Scratch::new("last");
+        let ahead = Ahead::start(scratch.path(), 0, 0, 100).unwrap();
+        // as if its thread hadn't noticed yet that the first one was taken
+        ahead.end_with(1);
+        ahead.next().unwrap();
+        ahead.next().unwrap();
+        ahead.next().unwrap_err();
+        assert_eq!(files(scratch.path()).unwrap().len(), 2);
+    }
+
+    /// A thread that finds no room for a file.
+    fn full() -> Ahead {
+        let (to, ready) = sync_channel(0);
+        let tell = move || drop(to.send(Err(io::ErrorKind::StorageFull.into())));
+        Ahead {
+            ready: Some(ready),
+            last: Arc::default(),
+            thread: Some(thread::spawn(tell)),
+        }
+    }
+
+    #[test]
+    fn a_log_is_replaced_on_a_full_disk_if_the_new_one_has_room() {
+        for (new, length) in [(100, 4096), (4096, 4096), (5000, 8192)] {
+            let scratch = Scratch::new(&format!("full-{new}"));
+            let mut log = reopened_with(16384, scratch.path(), 0);
+            log.append(&[7; 10_000]).unwrap();
+            log.ahead = Some(full());
+            let new = vec![8; new];
+            log.replace(&new).unwrap();
+            assert_eq!(log.lengths, [length]);
+            assert_found(scratch.path(), &new, "replaced");
+            drop(log);
+            assert_goes_on(16384, scratch.path(), &new, "appended");
+        }
+    }
+
+    #[test]
+    fn a_log_that_cannot_be_replaced_is_the_old_one() {
+        let scratch = Scratch::new("failed");
+        let mut log = reopened(scratch.path(), 0);
+        log.append(&[7; 350]).unwrap();
+        // nothing gets the name of a folder that isn't empty
+        let taken = path(scratch.path(), 1, 0);
+        fs::create_dir(&taken).unwrap();
+        fs::write(taken.join("file"), "").unwrap();
+        log.replace(&[8; 30]).unwrap_err();
+        drop(log);
+        fs::remove_dir_all(taken).unwrap();
+        assert_goes_on(100, scratch.path(), &[7; 350], "failed");
     }
 }

@@ -1,6 +1,6 @@
 //! What an administrator asks of a node, over the port for its peers, with the secret of the cluster.
 
-use crate::disk::Presence;
+use crate::disk::{Position, Presence};
 use crate::network::frames::Seal;
 use crate::network::handshake::{cluster_number, Direction, Hello, Nonce, Refusal, Secret, Sum, Sums, CHALLENGE};
 use crate::node::Handle;
@@ -61,7 +61,7 @@ fn exchange(address: &str, cluster: &str, secret: Option<&Secret>, text: &str) -
             starts: 0,
             run: 0,
         },
-        end: 0,
+        log: Position::default(),
         nonce,
     };
     let (hello, is_secret) = (hello.to_bytes(), secret.is_some());

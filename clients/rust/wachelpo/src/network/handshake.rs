@@ -10,11 +10,12 @@
 //! ```
 //!
 //! A sum is HMAC-SHA-256 (RFC 2104, FIPS 180-4) with the shared secret over a word for what it is, the hello and the nonce of the challenge;
-//! frames have a key of the connection, which is such a sum. Each frame begins with the position up to which its sender's log is on disk (8
-//! bytes): all that it has promised stands there. Whoever comes back with a shorter log isn't admitted. Without a secret it is the same with an empty one, and frames have no
-//! sums: then nothing is proved, and a server listens on loopback addresses alone.
+//! frames have a key of the connection, which is such a sum. Each frame begins with how often its sender's log was replaced, and up to where
+//! the last one is on disk (8 bytes each): all that it has promised stands there. Whoever comes back with an older log, or a shorter one,
+//! isn't admitted. Without a secret it is the same with an empty one, and frames have no sums: then nothing is proved, and a server listens
+//! on loopback addresses alone.
 
-use crate::disk::Presence;
+use crate::disk::{Position, Presence};
 use crate::NodeId;
 use hmac::{Hmac, Mac};
 use sha2::{Digest, Sha256};
@@ -24,9 +25,9 @@ pub(crate) type Sum = [u8; 32];
 pub(crate) type Nonce = [u8; 32];
 
 const MAGIC: &[u8; 8] = b"wachelpo";
-const VERSION: u64 = 1;
+const VERSION: u64 = 2;
 /// How many bytes a hello has, a challenge, a proof and a verdict.
-pub(crate) const HELLO: usize = 112;
+pub(crate) const HELLO: usize = 120;
 pub(crate) const CHALLENGE: usize = 64;
 pub(crate) const PROOF: usize = 32;
 pub(crate) const VERDICT: usize = 1;
@@ -68,8 +69,8 @@ pub(crate) struct Hello {
     pub from: Option<NodeId>,
     pub to: NodeId,
     pub presence: Presence,
-    /// Where its log ended when it was opened.
-    pub end: u64,
+    /// How far its log had come when it was opened.
+    pub log: Position,
     pub nonce: Nonce,
 }
 
@@ -87,21 +88,22 @@ impl Hello {
             folder,
             starts,
             run,
-            self.end,
+            self.log.generation,
+            self.log.end,
         ];
         bytes[..8].copy_from_slice(MAGIC);
-        for (place, word) in bytes[8..80].chunks_exact_mut(8).zip(words) {
+        for (place, word) in bytes[8..88].chunks_exact_mut(8).zip(words) {
             place.copy_from_slice(&word.to_le_bytes());
         }
-        bytes[80..].copy_from_slice(&self.nonce);
+        bytes[88..].copy_from_slice(&self.nonce);
         bytes
     }
 
     pub fn of_bytes(bytes: &[u8; HELLO]) -> Option<Self> {
-        let mut words = bytes[8..80]
+        let mut words = bytes[8..88]
             .chunks_exact(8)
             .map(|word| u64::from_le_bytes(word.try_into().expect("it has 8")));
-        let mut word = || words.next().expect("there are 9");
+        let mut word = || words.next().expect("there are 10");
         if &bytes[..8] != MAGIC || word() != VERSION {
             return None;
         }
@@ -119,8 +121,11 @@ impl Hello {
                 starts: word(),
                 run: word(),
             },
-            end: word(),
-            nonce: bytes[80..].try_into().expect("it has 32"),
+            log: Position {
+                generation: word(),
+                end: word(),
+            },
+            nonce: bytes[88..].try_into().expect("it has 32"),
         })
     }
 }
@@ -237,7 +242,7 @@ mod tests {
                 starts: 4,
                 run: 5,
             },
-            end: 8,
+            log: Position { generation: 8, end: 9 },
             nonce: [6; 32],
         }
     }

@@ -32,8 +32,11 @@ usage: wachelpo serve --id ID --data DIR --listen HOST:PORT [--peer ID=HOST:PORT
   --password FILE   what clients must say by AUTH: without it clients are only listened for on a loopback address
   --election-timeout MS  how long a node hears nothing of a leader before it asks for votes (by default 1000)
   --client-timeout S     how long a client may be silent (by default for ever)
+  --snapshot-entries N   after how many entries the next snapshot is made, the same at each node; 0: never (by default 10000)
+  --kept-entries N       how many entries of a snapshot are kept for nodes that lack few, the same at each node (by default 1000)
+  --log-bytes N          after how many bytes the log is replaced by one that begins with the last snapshot (by default 67108864)
   --config FILE     a file in TOML with the same: id, data, listen, peers (a list of strings), voters, cluster, metrics, secret, password,
-                    election_timeout, client_timeout
+                    election_timeout, client_timeout, snapshot_entries, kept_entries, log_bytes
 
 WACHELPO_LOG=error|warn|info|debug says how much is told on standard error.
 ";
@@ -71,6 +74,9 @@ struct Config {
     password: Option<PathBuf>,
     election_timeout: Option<u64>,
     client_timeout: Option<u64>,
+    snapshot_entries: Option<u64>,
+    kept_entries: Option<u64>,
+    log_bytes: Option<u64>,
 }
 
 /// What the command line and the file of settings say.
@@ -84,6 +90,9 @@ pub struct Options {
     pub cluster: String,
     pub election_timeout: Option<Duration>,
     pub client_timeout: Option<Duration>,
+    pub snapshot_entries: Option<u64>,
+    pub kept_entries: Option<u64>,
+    pub log_bytes: Option<u64>,
     listen: Option<String>,
     peers: Vec<String>,
     metrics: Option<String>,
@@ -129,6 +138,9 @@ impl Options {
             cluster: String::new(),
             election_timeout: None,
             client_timeout: None,
+            snapshot_entries: None,
+            kept_entries: None,
+            log_bytes: None,
             listen: None,
             peers: Vec::new(),
             metrics: None,
@@ -155,6 +167,9 @@ impl Options {
                     options.election_timeout = Some(Duration::from_millis(args.value()?.parse()?))
                 }
                 Long("client-timeout") => options.client_timeout = Some(Duration::from_secs(args.value()?.parse()?)),
+                Long("snapshot-entries") => options.snapshot_entries = Some(args.value()?.parse()?),
+                Long("kept-entries") => options.kept_entries = Some(args.value()?.parse()?),
+                Long("log-bytes") => options.log_bytes = Some(args.value()?.parse()?),
                 Long("config") => config = Some(PathBuf::from(args.value()?)),
                 Value(word) => words.push(word.parse()?),
                 _ => return Err(arg.unexpected().into()),
@@ -199,6 +214,9 @@ impl Options {
         self.election_timeout = self.election_timeout.or(timeout);
         let timeout = config.client_timeout.map(Duration::from_secs);
         self.client_timeout = self.client_timeout.or(timeout);
+        self.snapshot_entries = self.snapshot_entries.or(config.snapshot_entries);
+        self.kept_entries = self.kept_entries.or(config.kept_entries);
+        self.log_bytes = self.log_bytes.or(config.log_bytes);
         self.data = self.data.take().or(config.data);
         self.listen = self.listen.take().or(config.listen);
         self.metrics = self.metrics.take().or(config.metrics);
@@ -329,6 +347,7 @@ mod tests {
             "serve --id x",
             "serve --id 0",
             "serve --voters 1,,2",
+            "serve --log-bytes 64k",
         ] {
             assert!(options(line).is_err(), "{line}");
         }
@@ -358,5 +377,16 @@ mod tests {
             (Some(vec![NodeId(1)]), Some(Duration::from_millis(900)))
         );
         assert!(toml::from_str::<Config>("port = 1").is_err());
+    }
+
+    #[test]
+    fn how_long_a_log_gets_is_said_by_either() {
+        let mut options = options("serve --snapshot-entries 0 --log-bytes 65536").unwrap();
+        let text = "snapshot_entries = 1\nkept_entries = 2\nlog_bytes = 3";
+        options.fill(toml::from_str(text).unwrap()).unwrap();
+        assert_eq!(
+            (options.snapshot_entries, options.kept_entries, options.log_bytes),
+            (Some(0), Some(2), Some(65536))
+        );
     }
 }

@@ -67,7 +67,7 @@ impl Sockets {
             nonce,
         };
         let Some(Hello {
-            from, presence, end, ..
+            from, presence, log, ..
         }) = Hello::of_bytes(hello).filter(|_| sums.is_proof(proof))
         else {
             return self.turn_away(slot, Refusal::Secret, &[]);
@@ -77,7 +77,7 @@ impl Sockets {
         let role = match from {
             None => Role::Admin { there, back },
             Some(from) => {
-                let has_lost = self.ends.get(&from).is_some_and(|known| end < *known);
+                let has_lost = self.logs.get(&from).is_some_and(|known| log < *known);
                 if has_lost && !self.setup.folder.knows(from, presence) {
                     return self.turn_away(slot, Refusal::Log, &[]);
                 }

@@ -103,7 +103,7 @@ impl Sockets {
             from: Some(self.setup.id),
             to: *to,
             presence: self.presence,
-            end: self.end,
+            log: self.log,
             nonce,
         };
         let bytes = hello.to_bytes();

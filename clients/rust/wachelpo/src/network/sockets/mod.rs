@@ -7,7 +7,7 @@ mod reading;
 mod writing;
 
 use crate::batch::{Arrival, Arrivals, Deliveries};
-use crate::disk::{Folder, Presence};
+use crate::disk::{Folder, Position, Presence};
 use crate::inbox::Inbox;
 use crate::network::frames::{BadFrame, Seal};
 use crate::network::handshake::{Nonce, Refusal, Secret, Sum, HELLO};
@@ -188,8 +188,8 @@ fn refused(refusal: Refusal) -> Close {
 pub(crate) struct Sockets {
     setup: Setup,
     presence: Presence,
-    /// Where this node's log ended when it was opened.
-    end: u64,
+    /// How far this node's log had come when it was opened.
+    log: Position,
     poll: Poll,
     listeners: Vec<(Token, TcpListener)>,
     /// When listeners that couldn't take a connection are asked again.
@@ -202,8 +202,8 @@ pub(crate) struct Sockets {
     /// How many bytes for all clients wait.
     unwritten: usize,
     peers: BTreeMap<NodeId, usize>,
-    /// Up to which byte other nodes' logs are on disk, as they have said.
-    ends: BTreeMap<NodeId, u64>,
+    /// How far other nodes' logs are on disk, as they have said.
+    logs: BTreeMap<NodeId, Position>,
     strangers: usize,
     links: BTreeMap<NodeId, Link>,
     /// What host names were found to be.
@@ -278,7 +278,7 @@ impl Sockets {
         let presence = setup.folder.presence();
         let sockets = Sockets {
             presence,
-            end: setup.metrics.log_end.get(),
+            log: setup.metrics.log(),
             setup,
             poll,
             listeners,
@@ -290,7 +290,7 @@ impl Sockets {
             most_clients,
             unwritten: 0,
             peers: BTreeMap::new(),
-            ends: BTreeMap::new(),
+            logs: BTreeMap::new(),
             strangers: 0,
             links: peers.into_iter().map(|(id, address)| (id, link(address))).collect(),
             found: Arc::default(),

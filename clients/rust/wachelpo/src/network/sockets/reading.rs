@@ -2,6 +2,7 @@
 
 use super::{Close, Role, Sockets, Step, SHARE};
 use crate::batch::Arrival;
+use crate::disk::Position;
 use crate::network::handshake::{CHALLENGE, HELLO, PROOF, VERDICT};
 use crate::network::{admin, page};
 use std::io::{ErrorKind, Read};
@@ -84,11 +85,11 @@ impl Sockets {
                 let from = *from;
                 let mut rest = &socket.input[..];
                 while let Some((bytes, behind)) = seal.read(rest, self.setup.limits.frame_bytes)? {
-                    let (end, frame) = bytes
+                    let (log, frame) = bytes
                         .split_first_chunk()
                         .ok_or_else(|| Close(Some("a frame has no position".into())))?;
-                    let known = self.ends.entry(from).or_default();
-                    *known = u64::from_le_bytes(*end).max(*known);
+                    let known = self.logs.entry(from).or_default();
+                    *known = Position::of_bytes(log).max(*known);
                     self.arrivals.push(Arrival::Frame(from), frame);
                     self.setup.metrics.frames_received.add(1);
                     rest = behind;

@@ -67,7 +67,7 @@ impl Sockets {
             return;
         }
         let before = output.len();
-        seal.write_parts(&metrics.log_end.get().to_le_bytes(), frame, output);
+        seal.write_parts(&metrics.log().to_bytes(), frame, output);
         metrics.frames_sent.add(1);
         metrics.peer_bytes_sent.add((output.len() - before) as u64);
         self.make_dirty(slot);
