@@ -7,23 +7,23 @@ use Rattle.std.proofs.Common.{◌∙◌, inl, inr, ⊎_elim, sym, ap, subst, ari
 use Rattle.std.proofs.lemmas.Bool.{cases_eq, cases_lt, true≢false}
 use Rattle.std.proofs.lemmas.List.{append-nil, append_assoc, length-map}
 use Rattle.std.proofs.lemmas.List.Elements.{Contains-append_left}
-use Rattle.raft_state.proofs.LogLists.{each_append}
-use Rattle.raft_state.specs.declared.ids.LeaderId.{LeaderId}
-use Rattle.raft_store.specs.declared.entry.Entry.{Entry}
-use Rattle.raft_schedule.specs.declared.event.Event.{Event}
-use Rattle.raft_schedule.specs.declared.event.EventKind.{EventKind}
-use Rattle.raft_schedule.specs.declared.event.EventKind.TheVariants as kinds
-use Rattle.raft_calls.specs.declared.message.Message.{Message}
-use Rattle.raft_calls.specs.declared.message.Origin.{Origin}
-use Rattle.raft_node.specs.declared.act.Act.{Act}
-use Rattle.raft_node.specs.declared.act.Act.TheVariants.{Take}
-use Rattle.raft_node.specs.declared.act.Aim.{Aim}
-use Rattle.raft_node.specs.declared.given.Given.{Given}
-use Rattle.raft_node.specs.Events.{aim_of, happens, message_at, scene}
-use Rattle.raft_node.specs.Net.{Net, NodeView, Records, node_at}
-use Rattle.raft_node.specs.Runs.{net_of, whole_logs, world_after}
-use Rattle.raft_node.specs.WellFormed.{IsWellFormed}
-use Rattle.raft_node.specs.Work.{weight}
+use Rattle.proof_deeds.proofs.raft_state_proofs.LogLists.{each_append}
+use Rattle.proof_deeds.specs.raft_state.declared.ids.LeaderId.{LeaderId}
+use Rattle.proof_deeds.specs.raft_store.declared.entry.Entry.{Entry}
+use Rattle.proof_deeds.specs.raft_schedule.declared.event.Event.{Event}
+use Rattle.proof_deeds.specs.raft_schedule.declared.event.EventKind.{EventKind}
+use Rattle.proof_deeds.specs.raft_schedule.declared.event.EventKind.TheVariants as kinds
+use Rattle.proof_deeds.specs.raft_calls.declared.message.Message.{Message}
+use Rattle.proof_deeds.specs.raft_calls.declared.message.Origin.{Origin}
+use Rattle.proof_deeds.specs.raft_node.declared.act.Act.{Act}
+use Rattle.proof_deeds.specs.raft_node.declared.act.Act.TheVariants.{Take}
+use Rattle.proof_deeds.specs.raft_node.declared.act.Aim.{Aim}
+use Rattle.proof_deeds.specs.raft_node.declared.given.Given.{Given}
+use Rattle.proof_deeds.specs.raft_node.Events.{aim_of, happens, message_at, scene}
+use Rattle.proof_deeds.specs.raft_node.Net.{Net, NodeView, Records, node_at}
+use Rattle.proof_deeds.specs.raft_node.Runs.{net_of, whole_logs, world_after}
+use Rattle.proof_deeds.specs.raft_node.WellFormed.{IsWellFormed}
+use Rattle.proof_deeds.specs.raft_node.Work.{weight}
 use Rattle.proof_deeds.proofs.Nodes.{each_at}
 use Rattle.proof_clients.specs.Reads.{IsRequestOf, StillUnder}
 use Rattle.proof_clients.proofs.ReadsSee.{takers_are_under}

@@ -5,14 +5,14 @@ use Rattle.std.specs.Prelude.{Contains, IfSome, slice_get}
 use Rattle.std.specs.List.{AllByRecursion}
 use Rattle.std.proofs.lemmas.Bool.{cases_lt}
 use Rattle.std.proofs.lemmas.List.Elements.{Contains-append_cases, Contains-append_left, Contains-append_right}
-use Rattle.raft_store.specs.declared.entry.Entry.{Entry}
-use Rattle.raft_store.specs.declared.entry.Payload.TheVariants as payload
-use Rattle.raft_store.specs.declared.entry.Value.{Value}
-use Rattle.raft_schedule.specs.declared.event.Event.{Event}
-use Rattle.raft_node.specs.declared.given.Given.{Given}
-use Rattle.raft_node.specs.declared.record.Decided.{Decided}
-use Rattle.raft_node.specs.Runs.{world_after}
-use Rattle.raft_node.specs.WellFormed.{IsWellFormed}
+use Rattle.proof_deeds.specs.raft_store.declared.entry.Entry.{Entry}
+use Rattle.proof_deeds.specs.raft_store.declared.entry.Payload.TheVariants as payload
+use Rattle.proof_deeds.specs.raft_store.declared.entry.Value.{Value}
+use Rattle.proof_deeds.specs.raft_schedule.declared.event.Event.{Event}
+use Rattle.proof_deeds.specs.raft_node.declared.given.Given.{Given}
+use Rattle.proof_deeds.specs.raft_node.declared.record.Decided.{Decided}
+use Rattle.proof_deeds.specs.raft_node.Runs.{world_after}
+use Rattle.proof_deeds.specs.raft_node.WellFormed.{IsWellFormed}
 use Rattle.proof_clients.specs.Appends.{Appended}
 use Rattle.proof_clients.specs.Objects.{AreTwo, Ask, HaveTwoEntries, IsDistinct, IsLinearizable, Object, Operation, Precedes, Query, Return, Update, answer, state_after}
 use Rattle.proof_clients.proofs.OneLogs.{InEnd, end_is_one, index_in_end, same_in_end}

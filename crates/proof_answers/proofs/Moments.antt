@@ -1,21 +1,21 @@
 -- At the moments of an event its node is what the server's node is within the step.
 use Rattle.std.specs.Prelude.{◌≡◌, ◌+◌, ◌++◌, max, ℕ, List, take, slice_get, slice_set, Option, None, Some, refl}
 use Rattle.std.proofs.Common.{◌∙◌, sym, ap, subst}
-use Rattle.raft_store.specs.declared.entry.Entry.{Entry}
-use Rattle.raft_store.specs.Store.{whole}
-use Rattle.raft_schedule.specs.declared.event.Event.{Event}
-use Rattle.raft_schedule.specs.declared.event.EventKind.{EventKind}
-use Rattle.raft_schedule.specs.declared.event.Outcome.{Outcome}
-use Rattle.raft_schedule.specs.declared.event.Outcome.TheVariants.{Skipped}
-use Rattle.raft_schedule.specs.declared.event.SkipReason.{SkipReason}
-use Rattle.raft_schedule.specs.declared.event.SkipReason.TheVariants.{NoMessage, NotRunning}
-use Rattle.raft_node.specs.declared.act.Aim.{Aim}
-use Rattle.raft_node.specs.declared.given.Given.{Given}
-use Rattle.raft_node.specs.declared.node.Turn.{Turn}
-use Rattle.raft_node.specs.Events.{Scene, aim_of, answer_at, at_node, at_place, calls, calls_at, finish, happens, played, scene, scene_of, skip_reason, turn_of, with_answer, work_of}
-use Rattle.raft_node.specs.Net.{Net, NodeView, Records, no_records, node_at}
-use Rattle.raft_node.specs.Runs.{moment, net_of, whole_logs, world_after}
-use Rattle.raft_node.specs.Work.{Work}
+use Rattle.proof_deeds.specs.raft_store.declared.entry.Entry.{Entry}
+use Rattle.proof_deeds.specs.raft_store.Store.{whole}
+use Rattle.proof_deeds.specs.raft_schedule.declared.event.Event.{Event}
+use Rattle.proof_deeds.specs.raft_schedule.declared.event.EventKind.{EventKind}
+use Rattle.proof_deeds.specs.raft_schedule.declared.event.Outcome.{Outcome}
+use Rattle.proof_deeds.specs.raft_schedule.declared.event.Outcome.TheVariants.{Skipped}
+use Rattle.proof_deeds.specs.raft_schedule.declared.event.SkipReason.{SkipReason}
+use Rattle.proof_deeds.specs.raft_schedule.declared.event.SkipReason.TheVariants.{NoMessage, NotRunning}
+use Rattle.proof_deeds.specs.raft_node.declared.act.Aim.{Aim}
+use Rattle.proof_deeds.specs.raft_node.declared.given.Given.{Given}
+use Rattle.proof_deeds.specs.raft_node.declared.node.Turn.{Turn}
+use Rattle.proof_deeds.specs.raft_node.Events.{Scene, aim_of, answer_at, at_node, at_place, calls, calls_at, finish, happens, played, scene, scene_of, skip_reason, turn_of, with_answer, work_of}
+use Rattle.proof_deeds.specs.raft_node.Net.{Net, NodeView, Records, no_records, node_at}
+use Rattle.proof_deeds.specs.raft_node.Runs.{moment, net_of, whole_logs, world_after}
+use Rattle.proof_deeds.specs.raft_node.Work.{Work}
 use Rattle.proof_clients.specs.Appends.{Appended}
 use Rattle.proof_clients.proofs.Proposals.{moment_is}
 use Rattle.proof_servers.specs.Recorded.{scene_behind}

@@ -3,49 +3,49 @@ use Rattle.std.specs.Prelude.{◌≡◌, ◌≤◌, ℕ, Bool, true, false, max,
 use Rattle.std.specs.List.{AllByRecursion}
 use Rattle.std.specs.Option.{option_to_list}
 use Rattle.std.proofs.Common.{sym, ap, subst, arith, ◌∙◌}
-use Rattle.raft_state.specs.declared.ids.LogId.{LogId}
-use Rattle.raft_state.proofs.LogLists.{each_append}
-use Rattle.raft_error.specs.declared.error.EngineError.{EngineError}
-use Rattle.raft_progress_entry.specs.declared.entry.Inflight.{Inflight}
-use Rattle.raft_progress_entry.specs.declared.entry.Inflight.TheVariants as inflight
-use Rattle.raft_command.specs.declared.command.Command.TheVariants as command
-use Rattle.raft_command.specs.declared.replication.ReplicationSessionId.{ReplicationSessionId}
-use Rattle.raft_command.specs.declared.respond.Respond.TheVariants as respond
-use Rattle.raft_command.specs.declared.sm.CommandPayload.TheVariants as payload
-use Rattle.raft_command.specs.Queue.{popped}
-use Rattle.raft_steps.specs.SnapshotCalls.{finish_building_snapshot}
-use Rattle.raft_steps.specs.Refusals.{refusals_of_spent}
+use Rattle.proof_deeds.specs.raft_state.declared.ids.LogId.{LogId}
+use Rattle.proof_deeds.proofs.raft_state_proofs.LogLists.{each_append}
+use Rattle.proof_deeds.specs.raft_error.declared.error.EngineError.{EngineError}
+use Rattle.proof_deeds.specs.raft_progress_entry.declared.entry.Inflight.{Inflight}
+use Rattle.proof_deeds.specs.raft_progress_entry.declared.entry.Inflight.TheVariants as inflight
+use Rattle.proof_deeds.specs.raft_command.declared.command.Command.TheVariants as command
+use Rattle.proof_deeds.specs.raft_command.declared.replication.ReplicationSessionId.{ReplicationSessionId}
+use Rattle.proof_deeds.specs.raft_command.declared.respond.Respond.TheVariants as respond
+use Rattle.proof_deeds.specs.raft_command.declared.sm.CommandPayload.TheVariants as payload
+use Rattle.proof_deeds.specs.raft_command.Queue.{popped}
+use Rattle.proof_deeds.specs.raft_steps.SnapshotCalls.{finish_building_snapshot}
+use Rattle.proof_deeds.specs.raft_steps.Refusals.{refusals_of_spent}
 use Rattle.std.specs.Ordering.{nat_cmp}
-use Rattle.raft_store.specs.declared.entry.Entry.{Entry}
-use Rattle.raft_store.specs.Built.{meta_of}
-use Rattle.raft_store.specs.Entries.{entry_meaning}
-use Rattle.raft_store.specs.Types.{EngineView, WorldCommand, WorldPayload, WorldStore}
-use Rattle.raft_schedule.specs.declared.event.Outcome.{Outcome}
-use Rattle.raft_schedule.specs.declared.event.Outcome.TheVariants.{Skipped}
-use Rattle.raft_schedule.specs.declared.event.SkipReason.{SkipReason}
-use Rattle.raft_schedule.specs.declared.event.Start.TheVariants.{Plain, Saved, Bare}
-use Rattle.raft_calls.specs.declared.message.Body.{Body}
-use Rattle.raft_calls.specs.declared.message.Body.TheVariants as body
-use Rattle.raft_calls.specs.declared.message.Message.{Message}
-use Rattle.raft_calls.specs.declared.message.Origin.{Origin}
-use Rattle.raft_calls.specs.Deliveries.{answered, deliver, with_machine}
-use Rattle.raft_calls.specs.Elections.{elected, initialized}
-use Rattle.raft_calls.specs.Engines.{WorldRespond, with_queue}
-use Rattle.raft_calls.specs.Feeds.{feed}
-use Rattle.raft_calls.specs.LeaderCalls.{failed, heartbeats_sent, proposed, read_asked, stepped_down}
-use Rattle.raft_calls.specs.Memberships.{learners_changed, membership_changed}
-use Rattle.raft_calls.specs.Snapshots.{purge_triggered, snapshot_triggered, told_built}
-use Rattle.raft_node.specs.declared.act.Act.{Act}
-use Rattle.raft_node.specs.declared.act.Act.TheVariants.{Initialize, Elect, Take, Propose, SendHeartbeat, Fail, TriggerSnapshot, FinishSnapshot, TriggerPurge, Restart, ChangeLearners, ChangeMembership, Read, StepDown, Stop}
-use Rattle.raft_node.specs.declared.given.Given.{Given}
-use Rattle.raft_node.specs.declared.node.Turn.{Turn}
-use Rattle.raft_node.specs.Events.{Scene, calls, calls_at, finish, on_engine, played, requested, scene, skip_reason, turn_of, work_of}
-use Rattle.raft_node.specs.Execute.{Effects, exec, exec_payload, heartbeat, replicate_committed, replication, replies, reply_to, sending, to_each}
-use Rattle.raft_node.specs.Net.{NodeView, no_records}
-use Rattle.raft_node.specs.Runs.{whole_logs}
-use Rattle.raft_node.specs.Snapshots.{finish_snapshot, kept_built}
-use Rattle.raft_node.specs.Work.{Work, done_of, one_less, step_of, stopped, stops, weight, work_step, worked}
-use Rattle.raft_node.proofs.Worked.{worked-keeps}
+use Rattle.proof_deeds.specs.raft_store.declared.entry.Entry.{Entry}
+use Rattle.proof_deeds.specs.raft_store.Built.{meta_of}
+use Rattle.proof_deeds.specs.raft_store.Entries.{entry_meaning}
+use Rattle.proof_deeds.specs.raft_store.Types.{EngineView, WorldCommand, WorldPayload, WorldStore}
+use Rattle.proof_deeds.specs.raft_schedule.declared.event.Outcome.{Outcome}
+use Rattle.proof_deeds.specs.raft_schedule.declared.event.Outcome.TheVariants.{Skipped}
+use Rattle.proof_deeds.specs.raft_schedule.declared.event.SkipReason.{SkipReason}
+use Rattle.proof_deeds.specs.raft_schedule.declared.event.Start.TheVariants.{Plain, Saved, Bare}
+use Rattle.proof_deeds.specs.raft_calls.declared.message.Body.{Body}
+use Rattle.proof_deeds.specs.raft_calls.declared.message.Body.TheVariants as body
+use Rattle.proof_deeds.specs.raft_calls.declared.message.Message.{Message}
+use Rattle.proof_deeds.specs.raft_calls.declared.message.Origin.{Origin}
+use Rattle.proof_deeds.specs.raft_calls.Deliveries.{answered, deliver, with_machine}
+use Rattle.proof_deeds.specs.raft_calls.Elections.{elected, initialized}
+use Rattle.proof_deeds.specs.raft_calls.Engines.{WorldRespond, with_queue}
+use Rattle.proof_deeds.specs.raft_calls.Feeds.{feed}
+use Rattle.proof_deeds.specs.raft_calls.LeaderCalls.{failed, heartbeats_sent, proposed, read_asked, stepped_down}
+use Rattle.proof_deeds.specs.raft_calls.Memberships.{learners_changed, membership_changed}
+use Rattle.proof_deeds.specs.raft_calls.Snapshots.{purge_triggered, snapshot_triggered, told_built}
+use Rattle.proof_deeds.specs.raft_node.declared.act.Act.{Act}
+use Rattle.proof_deeds.specs.raft_node.declared.act.Act.TheVariants.{Initialize, Elect, Take, Propose, SendHeartbeat, Fail, TriggerSnapshot, FinishSnapshot, TriggerPurge, Restart, ChangeLearners, ChangeMembership, Read, StepDown, Stop}
+use Rattle.proof_deeds.specs.raft_node.declared.given.Given.{Given}
+use Rattle.proof_deeds.specs.raft_node.declared.node.Turn.{Turn}
+use Rattle.proof_deeds.specs.raft_node.Events.{Scene, calls, calls_at, finish, on_engine, played, requested, scene, skip_reason, turn_of, work_of}
+use Rattle.proof_deeds.specs.raft_node.Execute.{Effects, exec, exec_payload, heartbeat, replicate_committed, replication, replies, reply_to, sending, to_each}
+use Rattle.proof_deeds.specs.raft_node.Net.{NodeView, no_records}
+use Rattle.proof_deeds.specs.raft_node.Runs.{whole_logs}
+use Rattle.proof_deeds.specs.raft_node.Snapshots.{finish_snapshot, kept_built}
+use Rattle.proof_deeds.specs.raft_node.Work.{Work, done_of, one_less, step_of, stopped, stops, weight, work_step, worked}
+use Rattle.proof_deeds.proofs.raft_node_proofs.Worked.{worked-keeps}
 use Rattle.proof_clients.specs.Reads.{IsRequestOf, IsTaking}
 use Rattle.proof_servers.specs.Servers.{Step, node_after, outputs_of}
 

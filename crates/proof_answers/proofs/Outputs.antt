@@ -2,28 +2,28 @@
 use Rattle.std.specs.Prelude.{◌≡◌, ◌<◌, ◌⊎◌, max, ℕ, Bool, true, false, List, [], ◌∷◌, map, Contains, Option, None, Some, refl, if◌then◌else◌}
 use Rattle.std.proofs.Common.{inl, inr, ⊎_elim, sym, ap, subst, arith, zero, suc}
 use Rattle.std.proofs.lemmas.List.Elements.{Contains-append_cases, Contains-append_right}
-use Rattle.raft_state.specs.declared.ids.LogId.{LogId}
-use Rattle.raft_command.specs.declared.command.Command.TheVariants.{AppendInputEntries, BecomeLeader, Commit, DeleteConflictLog, PurgeLog, QuitLeader, RebuildReplicationStreams, Replicate, ReplicateCommitted, Respond, SaveVote, SendVote, StateMachine}
-use Rattle.raft_command.specs.declared.replication.ReplicationSessionId.{ReplicationSessionId}
-use Rattle.raft_command.specs.declared.sm.CommandPayload.TheVariants.{BuildSnapshot, GetSnapshot, BeginReceivingSnapshot, InstallFullSnapshot, Apply}
-use Rattle.raft_command.specs.Queue.{Queue, popped}
-use Rattle.raft_store.specs.declared.entry.Entry.{Entry}
-use Rattle.raft_store.specs.Store.{due}
-use Rattle.raft_store.specs.Types.{EngineView, WorldCommand, WorldPayload}
-use Rattle.raft_schedule.specs.declared.event.Outcome.{Outcome}
-use Rattle.raft_schedule.specs.declared.event.Outcome.TheVariants.{Skipped}
-use Rattle.raft_schedule.specs.declared.event.SkipReason.{SkipReason}
-use Rattle.raft_node.specs.declared.given.Given.{Given}
-use Rattle.raft_node.specs.declared.node.Turn.{Turn}
-use Rattle.raft_node.specs.declared.record.Executed.{Executed}
-use Rattle.raft_node.specs.Events.{Scene, calls, finish, played, scene, skip_reason, turn_of, work_of}
-use Rattle.raft_node.specs.Execute.{Effects, exec, exec_committed, exec_payload, replicate_committed, replication, sending, to_each}
-use Rattle.raft_node.specs.Net.{NodeView, no_records}
-use Rattle.raft_node.specs.Runs.{whole_logs}
-use Rattle.raft_node.specs.Until.{until}
-use Rattle.raft_node.specs.Work.{Work, done_of, idle, one_less, step_of, stopped, stops, weight, work_step, worked}
-use Rattle.raft_calls.specs.Engines.{with_queue}
-use Rattle.raft_calls.specs.Feeds.{feed}
+use Rattle.proof_deeds.specs.raft_state.declared.ids.LogId.{LogId}
+use Rattle.proof_deeds.specs.raft_command.declared.command.Command.TheVariants.{AppendInputEntries, BecomeLeader, Commit, DeleteConflictLog, PurgeLog, QuitLeader, RebuildReplicationStreams, Replicate, ReplicateCommitted, Respond, SaveVote, SendVote, StateMachine}
+use Rattle.proof_deeds.specs.raft_command.declared.replication.ReplicationSessionId.{ReplicationSessionId}
+use Rattle.proof_deeds.specs.raft_command.declared.sm.CommandPayload.TheVariants.{BuildSnapshot, GetSnapshot, BeginReceivingSnapshot, InstallFullSnapshot, Apply}
+use Rattle.proof_deeds.specs.raft_command.Queue.{Queue, popped}
+use Rattle.proof_deeds.specs.raft_store.declared.entry.Entry.{Entry}
+use Rattle.proof_deeds.specs.raft_store.Store.{due}
+use Rattle.proof_deeds.specs.raft_store.Types.{EngineView, WorldCommand, WorldPayload}
+use Rattle.proof_deeds.specs.raft_schedule.declared.event.Outcome.{Outcome}
+use Rattle.proof_deeds.specs.raft_schedule.declared.event.Outcome.TheVariants.{Skipped}
+use Rattle.proof_deeds.specs.raft_schedule.declared.event.SkipReason.{SkipReason}
+use Rattle.proof_deeds.specs.raft_node.declared.given.Given.{Given}
+use Rattle.proof_deeds.specs.raft_node.declared.node.Turn.{Turn}
+use Rattle.proof_deeds.specs.raft_node.declared.record.Executed.{Executed}
+use Rattle.proof_deeds.specs.raft_node.Events.{Scene, calls, finish, played, scene, skip_reason, turn_of, work_of}
+use Rattle.proof_deeds.specs.raft_node.Execute.{Effects, exec, exec_committed, exec_payload, replicate_committed, replication, sending, to_each}
+use Rattle.proof_deeds.specs.raft_node.Net.{NodeView, no_records}
+use Rattle.proof_deeds.specs.raft_node.Runs.{whole_logs}
+use Rattle.proof_deeds.specs.raft_node.Until.{until}
+use Rattle.proof_deeds.specs.raft_node.Work.{Work, done_of, idle, one_less, step_of, stopped, stops, weight, work_step, worked}
+use Rattle.proof_deeds.specs.raft_calls.Engines.{with_queue}
+use Rattle.proof_deeds.specs.raft_calls.Feeds.{feed}
 use Rattle.proof_servers.specs.Servers.{Step, outputs_of}
 use Rattle.proof_servers.proofs.Included.{contains_map}
 use Rattle.proof_answers.specs.Answers.{node_within}

@@ -4,7 +4,7 @@ use Rattle.std.specs.Prelude.{Contains}
 use Rattle.std.specs.List.{AllByRecursion}
 use Rattle.std.proofs.lemmas.Bool.{cases_lt, cases_order}
 use Rattle.std.proofs.lemmas.List.Elements.{All-contains_itself, recursion_from_All}
-use Rattle.raft_store.specs.declared.entry.Entry.{Entry}
+use Rattle.proof_deeds.specs.raft_store.declared.entry.Entry.{Entry}
 use Rattle.proof_clients.specs.Objects.{IsDistinct, IsTimely, Operation, Precedes}
 use Rattle.proof_clients.proofs.Sequences.{IsBefore, IsSorted as IsStrict, Looks, Orders, each_of, element, first_or, look, next, none, rank, rank_carried, rank_looked, skip}
 use Rattle.proof_clients.proofs.Slots.{here, there}

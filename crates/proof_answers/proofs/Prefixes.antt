@@ -3,7 +3,7 @@ use Rattle.std.specs.Prelude.{◌≡◌, ◌≢◌, ◌<◌, ◌≤◌, ◌+◌,
 use Rattle.std.proofs.Common.{◌∙◌, inl, inr, sym, ap, subst, arith, zero, suc}
 use Rattle.std.proofs.lemmas.Bool.{eq-eqb, eqb-true}
 use Rattle.std.proofs.lemmas.List.Elements.{Contains-append_left, Contains-append_right}
-use Rattle.raft_node.specs.declared.given.Given.{Given}
+use Rattle.proof_deeds.specs.raft_node.declared.given.Given.{Given}
 use Rattle.proof_servers.specs.Servers.{Action, AllMayAct, Cluster, Crashes, Flushes, MayAct, Step, Takes, after_action, after_actions}
 use Rattle.proof_answers.specs.Waiting.{but_oldest, waiting, waiting_from, waiting_on}
 use Rattle.proof_clients.proofs.Sequences.{first_or}

@@ -4,34 +4,34 @@ use Rattle.std.specs.Prelude.{◌≡◌, ◌<◌, ◌≤◌, ◌⊎◌, ℕ, tru
 use Rattle.std.specs.Ordering.{nat_cmp}
 use Rattle.std.proofs.Common.{◌∙◌, inl, inr, sym, ap, subst, arith, suc, zero}
 use Rattle.std.proofs.lemmas.List.Elements.{All-from_recursion}
-use Rattle.raft_state.specs.Order.{next}
-use Rattle.raft_progress.specs.Quorum.{is_quorum}
-use Rattle.raft_command.specs.declared.message.AppendEntriesResponse.{AppendEntriesResponse}
-use Rattle.raft_command.specs.declared.message.AppendEntriesResponse.TheVariants.{HigherVote, Success}
-use Rattle.raft_command.specs.declared.replication.RequestId.TheVariants.{HeartBeat}
-use Rattle.raft_steps.specs.Commit.{commit_by}
-use Rattle.raft_steps.specs.Engine.{elect, handle_vote_resp, initialize, lead_by_votes, take_grant}
-use Rattle.raft_steps.specs.FollowingHandler.{do_append_entries}
-use Rattle.raft_steps.specs.LeaderHandler.{leader_append_entries, proposed}
-use Rattle.raft_steps.specs.ReplicationHandler.{initiate_replication, rebuild_replication_streams, try_commit_quorum_accepted, update_local_progress}
-use Rattle.raft_steps.specs.ServerStateHandler.{update_role}
-use Rattle.raft_steps.specs.SnapshotHandler.{snapshot_where_due, trigger_snapshot}
-use Rattle.raft_steps.specs.VoteHandler.{become_following, become_leader, begin_lead, lead_anew, update_internal_server_state, update_vote}
-use Rattle.raft_steps.proofs.Example.{committed, lid}
-use Rattle.raft_store.specs.declared.entry.Entry.{Entry}
-use Rattle.raft_schedule.specs.declared.event.Start.{Start}
-use Rattle.raft_schedule.specs.declared.event.Start.TheVariants.{Bare}
-use Rattle.raft_calls.specs.declared.lead.Answer.{Answer}
-use Rattle.raft_calls.specs.declared.message.Body.TheVariants.{AppendReply}
-use Rattle.raft_calls.specs.declared.message.Message.{Message}
-use Rattle.raft_calls.specs.declared.message.Origin.{Origin}
-use Rattle.raft_calls.specs.Elections.{first_entry}
-use Rattle.raft_node.specs.declared.act.Act.{Act}
-use Rattle.raft_node.specs.declared.act.Act.TheVariants.{Initialize, Propose, Read, Restart, Take}
-use Rattle.raft_node.specs.Chosen.{effective_in}
-use Rattle.raft_node.specs.Events.{finish, place_of, played}
-use Rattle.raft_node.specs.Net.{NodeView}
-use Rattle.raft_node.specs.Work.{worked}
+use Rattle.proof_deeds.specs.raft_state.Order.{next}
+use Rattle.proof_deeds.specs.raft_progress.Quorum.{is_quorum}
+use Rattle.proof_deeds.specs.raft_command.declared.message.AppendEntriesResponse.{AppendEntriesResponse}
+use Rattle.proof_deeds.specs.raft_command.declared.message.AppendEntriesResponse.TheVariants.{HigherVote, Success}
+use Rattle.proof_deeds.specs.raft_command.declared.replication.RequestId.TheVariants.{HeartBeat}
+use Rattle.proof_deeds.specs.raft_steps.Commit.{commit_by}
+use Rattle.proof_deeds.specs.raft_steps.Engine.{elect, handle_vote_resp, initialize, lead_by_votes, take_grant}
+use Rattle.proof_deeds.specs.raft_steps.FollowingHandler.{do_append_entries}
+use Rattle.proof_deeds.specs.raft_steps.LeaderHandler.{leader_append_entries, proposed}
+use Rattle.proof_deeds.specs.raft_steps.ReplicationHandler.{initiate_replication, rebuild_replication_streams, try_commit_quorum_accepted, update_local_progress}
+use Rattle.proof_deeds.specs.raft_steps.ServerStateHandler.{update_role}
+use Rattle.proof_deeds.specs.raft_steps.SnapshotHandler.{snapshot_where_due, trigger_snapshot}
+use Rattle.proof_deeds.specs.raft_steps.VoteHandler.{become_following, become_leader, begin_lead, lead_anew, update_internal_server_state, update_vote}
+use Rattle.proof_deeds.proofs.raft_steps_proofs.Example.{committed, lid}
+use Rattle.proof_deeds.specs.raft_store.declared.entry.Entry.{Entry}
+use Rattle.proof_deeds.specs.raft_schedule.declared.event.Start.{Start}
+use Rattle.proof_deeds.specs.raft_schedule.declared.event.Start.TheVariants.{Bare}
+use Rattle.proof_deeds.specs.raft_calls.declared.lead.Answer.{Answer}
+use Rattle.proof_deeds.specs.raft_calls.declared.message.Body.TheVariants.{AppendReply}
+use Rattle.proof_deeds.specs.raft_calls.declared.message.Message.{Message}
+use Rattle.proof_deeds.specs.raft_calls.declared.message.Origin.{Origin}
+use Rattle.proof_deeds.specs.raft_calls.Elections.{first_entry}
+use Rattle.proof_deeds.specs.raft_node.declared.act.Act.{Act}
+use Rattle.proof_deeds.specs.raft_node.declared.act.Act.TheVariants.{Initialize, Propose, Read, Restart, Take}
+use Rattle.proof_deeds.specs.raft_node.Chosen.{effective_in}
+use Rattle.proof_deeds.specs.raft_node.Events.{finish, place_of, played}
+use Rattle.proof_deeds.specs.raft_node.Net.{NodeView}
+use Rattle.proof_deeds.specs.raft_node.Work.{worked}
 use Rattle.proof_deeds.proofs.RunRows.{alone, blank, leader}
 use Rattle.proof_clients.specs.Objects.{Operation, Query, Return, state_after}
 use Rattle.proof_clients.specs.Reads.{IsTaking}

@@ -7,28 +7,28 @@ use Rattle.std.proofs.Common.{◌∙◌, inl, inr, ⊎_elim, sym, ap, subst, ari
 use Rattle.std.proofs.lemmas.Bool.{cases_eq, cases_lt, true≢false}
 use Rattle.std.proofs.lemmas.List.{append_assoc, length-map}
 use Rattle.std.proofs.lemmas.List.Elements.{All-from_recursion, recursion_from_All}
-use Rattle.raft_state.specs.declared.ids.LeaderId.{LeaderId}
-use Rattle.raft_state.specs.declared.ids.Vote.{Vote}
-use Rattle.raft_state.specs.Order.{next}
-use Rattle.raft_progress.specs.Quorum.{is_quorum}
-use Rattle.raft_store.specs.declared.entry.Entry.{Entry}
-use Rattle.raft_store.specs.Store.{whole}
-use Rattle.raft_schedule.specs.declared.event.Event.{Event}
-use Rattle.raft_schedule.specs.declared.event.EventKind.{EventKind}
-use Rattle.raft_schedule.specs.declared.event.EventKind.TheVariants as kinds
-use Rattle.raft_schedule.specs.declared.event.Start.{Start}
-use Rattle.raft_schedule.specs.declared.event.Start.TheVariants.{Bare}
-use Rattle.raft_calls.specs.declared.lead.Answer.{Answer}
-use Rattle.raft_calls.specs.declared.message.Message.{Message}
-use Rattle.raft_node.specs.declared.act.Act.{Act}
-use Rattle.raft_node.specs.declared.act.Act.TheVariants as acts
-use Rattle.raft_node.specs.declared.act.Aim.{Aim}
-use Rattle.raft_node.specs.declared.given.Given.{Given}
-use Rattle.raft_node.specs.Chosen.{effective_in}
-use Rattle.raft_node.specs.Events.{aim_of, message_at}
-use Rattle.raft_node.specs.Net.{Net, NodeView, new_node, node_at}
-use Rattle.raft_node.specs.Runs.{world_after}
-use Rattle.raft_node.specs.WellFormed.{IsWellFormed}
+use Rattle.proof_deeds.specs.raft_state.declared.ids.LeaderId.{LeaderId}
+use Rattle.proof_deeds.specs.raft_state.declared.ids.Vote.{Vote}
+use Rattle.proof_deeds.specs.raft_state.Order.{next}
+use Rattle.proof_deeds.specs.raft_progress.Quorum.{is_quorum}
+use Rattle.proof_deeds.specs.raft_store.declared.entry.Entry.{Entry}
+use Rattle.proof_deeds.specs.raft_store.Store.{whole}
+use Rattle.proof_deeds.specs.raft_schedule.declared.event.Event.{Event}
+use Rattle.proof_deeds.specs.raft_schedule.declared.event.EventKind.{EventKind}
+use Rattle.proof_deeds.specs.raft_schedule.declared.event.EventKind.TheVariants as kinds
+use Rattle.proof_deeds.specs.raft_schedule.declared.event.Start.{Start}
+use Rattle.proof_deeds.specs.raft_schedule.declared.event.Start.TheVariants.{Bare}
+use Rattle.proof_deeds.specs.raft_calls.declared.lead.Answer.{Answer}
+use Rattle.proof_deeds.specs.raft_calls.declared.message.Message.{Message}
+use Rattle.proof_deeds.specs.raft_node.declared.act.Act.{Act}
+use Rattle.proof_deeds.specs.raft_node.declared.act.Act.TheVariants as acts
+use Rattle.proof_deeds.specs.raft_node.declared.act.Aim.{Aim}
+use Rattle.proof_deeds.specs.raft_node.declared.given.Given.{Given}
+use Rattle.proof_deeds.specs.raft_node.Chosen.{effective_in}
+use Rattle.proof_deeds.specs.raft_node.Events.{aim_of, message_at}
+use Rattle.proof_deeds.specs.raft_node.Net.{Net, NodeView, new_node, node_at}
+use Rattle.proof_deeds.specs.raft_node.Runs.{world_after}
+use Rattle.proof_deeds.specs.raft_node.WellFormed.{IsWellFormed}
 use Rattle.proof_deeds.specs.OwnReads.{Leaves}
 use Rattle.proof_deeds.proofs.LeadsAnew.{was_there}
 use Rattle.proof_clients.specs.Reads.{LeadsOn, Reaches, StillUnder}

@@ -4,13 +4,13 @@ use Rattle.std.specs.Prelude.{◌≡◌, ◌≢◌, ◌<◌, ◌≤◌, ◌⊎�
 use Rattle.std.proofs.Common.{◌∙◌, inl, inr, sym, ap, subst, arith, zero, suc}
 use Rattle.std.proofs.lemmas.Bool.{cases_eq, cases_lt, eq-eqb, eqb-true, ne_eqb}
 use Rattle.std.proofs.lemmas.List.{append-nil, append_assoc, length-map, map-append}
-use Rattle.raft_schedule.specs.declared.event.Event.{Event}
-use Rattle.raft_schedule.specs.declared.event.EventKind.{EventKind}
-use Rattle.raft_node.specs.declared.given.Given.{Given}
-use Rattle.raft_calls.specs.declared.message.Message.{Message}
-use Rattle.raft_node.specs.Events.{aim_of}
-use Rattle.raft_node.specs.Net.{NodeView, node_at}
-use Rattle.raft_node.specs.Runs.{world_after}
+use Rattle.proof_deeds.specs.raft_schedule.declared.event.Event.{Event}
+use Rattle.proof_deeds.specs.raft_schedule.declared.event.EventKind.{EventKind}
+use Rattle.proof_deeds.specs.raft_node.declared.given.Given.{Given}
+use Rattle.proof_deeds.specs.raft_calls.declared.message.Message.{Message}
+use Rattle.proof_deeds.specs.raft_node.Events.{aim_of}
+use Rattle.proof_deeds.specs.raft_node.Net.{NodeView, node_at}
+use Rattle.proof_deeds.specs.raft_node.Runs.{world_after}
 use Rattle.raft_wire.specs.Records.{on_disk}
 use Rattle.proof_servers.specs.Follows.{AreIncluded, Follows, ServerFollows}
 use Rattle.proof_servers.specs.Recorded.{joined}

@@ -2,17 +2,17 @@
 -- state machine has taken the entry with that id, in the same start, and what that step and those before it leave is on disk. Whether
 -- it still leads then doesn't matter.
 use Rattle.std.specs.Prelude.{ℕ, ◌<◌, ◌≤◌, ◌≡◌, ◌≢◌, ◌⊎◌, List, ◌∷◌, ◌++◌, Some, max, slice_get, take, true}
-use Rattle.raft_store.specs.declared.entry.Entry.{Entry}
-use Rattle.raft_store.specs.declared.entry.Payload.TheVariants as payload
-use Rattle.raft_store.specs.declared.entry.Value.{Value}
-use Rattle.raft_store.specs.Store.{whole}
-use Rattle.raft_schedule.specs.declared.event.EventKind.TheVariants as event
-use Rattle.raft_schedule.specs.declared.event.Start.TheVariants.{Bare}
-use Rattle.raft_node.specs.declared.act.Act.TheVariants.{Propose, Restart}
-use Rattle.raft_node.specs.declared.given.Given.{Given}
-use Rattle.raft_node.specs.Events.{played, scene}
-use Rattle.raft_node.specs.Net.{NodeView, no_records}
-use Rattle.raft_node.specs.Runs.{whole_logs}
+use Rattle.proof_deeds.specs.raft_store.declared.entry.Entry.{Entry}
+use Rattle.proof_deeds.specs.raft_store.declared.entry.Payload.TheVariants as payload
+use Rattle.proof_deeds.specs.raft_store.declared.entry.Value.{Value}
+use Rattle.proof_deeds.specs.raft_store.Store.{whole}
+use Rattle.proof_deeds.specs.raft_schedule.declared.event.EventKind.TheVariants as event
+use Rattle.proof_deeds.specs.raft_schedule.declared.event.Start.TheVariants.{Bare}
+use Rattle.proof_deeds.specs.raft_node.declared.act.Act.TheVariants.{Propose, Restart}
+use Rattle.proof_deeds.specs.raft_node.declared.given.Given.{Given}
+use Rattle.proof_deeds.specs.raft_node.Events.{played, scene}
+use Rattle.proof_deeds.specs.raft_node.Net.{NodeView, no_records}
+use Rattle.proof_deeds.specs.raft_node.Runs.{whole_logs}
 use Rattle.proof_servers.specs.Servers.{Action, Crashes, Flushes, Server, Step, Takes, after_actions, event_at, flushed_first, new_cluster, stopped_node}
 use Rattle.proof_answers.specs.Waiting.{waiting}
 

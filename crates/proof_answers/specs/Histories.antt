@@ -3,11 +3,11 @@
 -- marker's entry. Or it is answered by the rule, without an entry (Raft paper, section 8).
 use Rattle.std.specs.Prelude.{ℕ, ◌+◌, ◌≤◌, ◌≡◌, ◌⊎◌, Contains, IfSome, List, length, take}
 use Rattle.std.specs.List.{AllByRecursion}
-use Rattle.raft_state.specs.Order.{next}
-use Rattle.raft_store.specs.declared.entry.Entry.{Entry}
-use Rattle.raft_store.specs.declared.entry.Value.{Value}
-use Rattle.raft_calls.specs.declared.lead.Answer.{Answer}
-use Rattle.raft_node.specs.declared.given.Given.{Given}
+use Rattle.proof_deeds.specs.raft_state.Order.{next}
+use Rattle.proof_deeds.specs.raft_store.declared.entry.Entry.{Entry}
+use Rattle.proof_deeds.specs.raft_store.declared.entry.Value.{Value}
+use Rattle.proof_deeds.specs.raft_calls.declared.lead.Answer.{Answer}
+use Rattle.proof_deeds.specs.raft_node.declared.given.Given.{Given}
 use Rattle.proof_clients.specs.Objects.{IsDistinct, IsOnce, Object, Operation, Query, Return, Update, state_after}
 use Rattle.proof_servers.specs.Servers.{Action}
 use Rattle.proof_answers.specs.Answers.{Executes, Fails, Proposed, Told}

@@ -1,12 +1,12 @@
 -- What is promised of clients of servers.
 use Rattle.std.specs.Prelude.{ℕ, ◌<◌, ◌≡◌, Contains, List, ◌∷◌, ◌++◌, Some, slice_get, take}
-use Rattle.raft_store.specs.declared.entry.Entry.{Entry}
-use Rattle.raft_store.specs.declared.entry.Payload.TheVariants as payload
-use Rattle.raft_store.specs.declared.entry.Value.{Value}
-use Rattle.raft_node.specs.declared.given.Given.{Given}
-use Rattle.raft_node.specs.declared.record.Executed.{Executed}
-use Rattle.raft_node.specs.Net.{NodeView}
-use Rattle.raft_node.specs.WellFormed.{IsWellFormed}
+use Rattle.proof_deeds.specs.raft_store.declared.entry.Entry.{Entry}
+use Rattle.proof_deeds.specs.raft_store.declared.entry.Payload.TheVariants as payload
+use Rattle.proof_deeds.specs.raft_store.declared.entry.Value.{Value}
+use Rattle.proof_deeds.specs.raft_node.declared.given.Given.{Given}
+use Rattle.proof_deeds.specs.raft_node.declared.record.Executed.{Executed}
+use Rattle.proof_deeds.specs.raft_node.Net.{NodeView}
+use Rattle.proof_deeds.specs.raft_node.WellFormed.{IsWellFormed}
 use Rattle.proof_clients.specs.Objects.{IsLinearizable, Object, Operation}
 use Rattle.proof_servers.specs.Servers.{Action, AllMayAct, Flushes, Step, new_cluster, outputs_of}
 use Rattle.proof_answers.specs.Answers.{Executes, Proposed, TakesAt, Told}

@@ -1,39 +1,39 @@
 -- A worked run, computed: among three voters two values are proposed by one event, appended by one command, and applied: two
 -- operations of clients.
-use Rattle.raft_steps.specs.Commit.{commit_by}
-use Rattle.raft_steps.specs.Engine.{elect, handle_vote_resp, initialize, lead_by_votes, take_grant}
-use Rattle.raft_steps.specs.FollowingHandler as following
-use Rattle.raft_steps.specs.FollowingHandler.{append_entries, do_append_entries}
-use Rattle.raft_steps.specs.LeaderHandler.{leader_append_entries, proposed}
-use Rattle.raft_steps.specs.LogHandler.{purge_log, try_purge_log}
-use Rattle.raft_steps.specs.Replies.{purge_unless_inflight, send_next, update_failed_progress, update_leader_clock, update_matching, update_progress, update_success_progress}
-use Rattle.raft_steps.specs.ReplicationHandler.{initiate_replication, rebuild_replication_streams, try_commit_quorum_accepted, update_local_progress}
-use Rattle.raft_steps.specs.Requests as requests
-use Rattle.raft_steps.specs.Requests.{append_answer, follow, handle_append_entries, handle_commit_entries, handle_vote_req, vote_req_answer}
-use Rattle.raft_steps.specs.ServerStateHandler.{update_role}
-use Rattle.raft_steps.specs.SnapshotHandler.{snapshot_where_due, trigger_snapshot}
-use Rattle.raft_steps.specs.VoteHandler.{become_following, become_leader, begin_lead, lead_anew, update_internal_server_state, update_vote}
-use Rattle.raft_steps.proofs.Example.{committed, lid, settings, three}
-use Rattle.raft_store.specs.declared.entry.Entry.{Entry}
-use Rattle.raft_store.specs.declared.entry.Payload.TheVariants as payload
-use Rattle.raft_store.specs.Store.{whole}
-use Rattle.raft_schedule.specs.declared.event.Event.{Event}
-use Rattle.raft_node.specs.Events.{finish, happens, place_of, played}
-use Rattle.raft_calls.specs.Elections.{first_entry}
-use Rattle.raft_node.specs.Net.{NodeView, new_node, node_at}
-use Rattle.raft_node.specs.Runs.{moment, with_event}
-use Rattle.raft_node.specs.Work.{worked}
+use Rattle.proof_deeds.specs.raft_steps.Commit.{commit_by}
+use Rattle.proof_deeds.specs.raft_steps.Engine.{elect, handle_vote_resp, initialize, lead_by_votes, take_grant}
+use Rattle.proof_deeds.specs.raft_steps.FollowingHandler as following
+use Rattle.proof_deeds.specs.raft_steps.FollowingHandler.{append_entries, do_append_entries}
+use Rattle.proof_deeds.specs.raft_steps.LeaderHandler.{leader_append_entries, proposed}
+use Rattle.proof_deeds.specs.raft_steps.LogHandler.{purge_log, try_purge_log}
+use Rattle.proof_deeds.specs.raft_steps.Replies.{purge_unless_inflight, send_next, update_failed_progress, update_leader_clock, update_matching, update_progress, update_success_progress}
+use Rattle.proof_deeds.specs.raft_steps.ReplicationHandler.{initiate_replication, rebuild_replication_streams, try_commit_quorum_accepted, update_local_progress}
+use Rattle.proof_deeds.specs.raft_steps.Requests as requests
+use Rattle.proof_deeds.specs.raft_steps.Requests.{append_answer, follow, handle_append_entries, handle_commit_entries, handle_vote_req, vote_req_answer}
+use Rattle.proof_deeds.specs.raft_steps.ServerStateHandler.{update_role}
+use Rattle.proof_deeds.specs.raft_steps.SnapshotHandler.{snapshot_where_due, trigger_snapshot}
+use Rattle.proof_deeds.specs.raft_steps.VoteHandler.{become_following, become_leader, begin_lead, lead_anew, update_internal_server_state, update_vote}
+use Rattle.proof_deeds.proofs.raft_steps_proofs.Example.{committed, lid, settings, three}
+use Rattle.proof_deeds.specs.raft_store.declared.entry.Entry.{Entry}
+use Rattle.proof_deeds.specs.raft_store.declared.entry.Payload.TheVariants as payload
+use Rattle.proof_deeds.specs.raft_store.Store.{whole}
+use Rattle.proof_deeds.specs.raft_schedule.declared.event.Event.{Event}
+use Rattle.proof_deeds.specs.raft_node.Events.{finish, happens, place_of, played}
+use Rattle.proof_deeds.specs.raft_calls.Elections.{first_entry}
+use Rattle.proof_deeds.specs.raft_node.Net.{NodeView, new_node, node_at}
+use Rattle.proof_deeds.specs.raft_node.Runs.{moment, with_event}
+use Rattle.proof_deeds.specs.raft_node.Work.{worked}
 use Rattle.proof_deeds.proofs.Nodes.{node_found}
 use Rattle.proof_deeds.proofs.RunRows.{blank, event, leader, trio}
 use Rattle.proof_clients.specs.Appends.{Appended}
 use Rattle.std.specs.Prelude.{◌≡◌, ℕ, true, List, [], ◌∷◌, ◌++◌, Contains, None, Option, Some, is_some, map, refl, slice_get, take}
 use Rattle.std.proofs.Common.{inr, arith, subst, sym, ap, ◌∙◌}
 use Rattle.std.proofs.lemmas.List.Elements.{All-contains_itself, recursion_from_All}
-use Rattle.raft_state.specs.declared.ids.LeaderId.{LeaderId}
-use Rattle.raft_state.specs.declared.ids.LogId.{LogId}
-use Rattle.raft_state.specs.declared.ids.Vote.{Vote}
-use Rattle.raft_store.specs.declared.entry.Value.TheVariants.{Number}
-use Rattle.raft_schedule.specs.declared.event.EventKind.TheVariants.{Deliver, Init, Propose}
+use Rattle.proof_deeds.specs.raft_state.declared.ids.LeaderId.{LeaderId}
+use Rattle.proof_deeds.specs.raft_state.declared.ids.LogId.{LogId}
+use Rattle.proof_deeds.specs.raft_state.declared.ids.Vote.{Vote}
+use Rattle.proof_deeds.specs.raft_store.declared.entry.Value.TheVariants.{Number}
+use Rattle.proof_deeds.specs.raft_schedule.declared.event.EventKind.TheVariants.{Deliver, Init, Propose}
 use Rattle.proof_clients.specs.Histories.{IsAsked, IsHistory, IsUpdate}
 use Rattle.proof_clients.specs.Objects.{Operation, Update, state_after}
 use Rattle.proof_clients.proofs.Rows.{counter}

@@ -3,43 +3,43 @@ use Rattle.std.proofs.Common.{ℕ, zero, suc, append-nil, append_assoc, ◌-◌,
 use Rattle.std.specs.Prelude.{Err, IfSome, nat_eq, slice_get, slice_set, if◌then◌else◌}
 use Rattle.std.specs.List.{AllByRecursion}
 use Rattle.std.specs.Option.{option_map}
-use Rattle.raft_state.specs.declared.ids.LogId.{LogId}
-use Rattle.raft_command.specs.declared.config.EngineConfig.{EngineConfig}
-use Rattle.raft_proposer.specs.Leader.{assigned}
-use Rattle.raft_steps.specs.Engine.{default_log_id}
-use Rattle.raft_steps.specs.Parts.{led_of}
-use Rattle.raft_steps.specs.Refusals.{refusals_of_propose}
-use Rattle.raft_store.specs.declared.entry.Entry.{Entry}
-use Rattle.raft_store.specs.declared.entry.Payload.TheVariants.{Blank}
-use Rattle.raft_store.specs.Entries.{entry_meaning}
-use Rattle.raft_store.specs.Restart.{forgotten}
-use Rattle.raft_store.specs.Types.{EngineView, WorldLeader}
-use Rattle.raft_schedule.specs.declared.event.Event.{Event}
-use Rattle.raft_schedule.specs.declared.event.EventKind.{EventKind}
-use Rattle.raft_schedule.specs.declared.event.EventKind.TheVariants as kinds
-use Rattle.raft_schedule.specs.declared.event.Outcome.{Outcome}
-use Rattle.raft_schedule.specs.declared.event.Outcome.TheVariants.{Skipped}
-use Rattle.raft_schedule.specs.declared.event.SkipReason.{SkipReason}
-use Rattle.raft_schedule.specs.declared.event.SkipReason.TheVariants.{NoMessage, NotRunning}
-use Rattle.raft_schedule.specs.declared.event.Start.TheVariants.{Plain, Saved, Bare}
-use Rattle.raft_node.specs.declared.act.Act.{Act}
-use Rattle.raft_node.specs.declared.act.Act.TheVariants.{ChangeLearners, ChangeMembership, Elect, Fail, FinishSnapshot, Initialize, Propose, Read, Restart, SendHeartbeat, StepDown, Stop, Take, TriggerPurge, TriggerSnapshot}
-use Rattle.raft_node.specs.declared.act.Aim.{Aim}
-use Rattle.raft_node.specs.declared.given.Given.{Given}
-use Rattle.raft_calls.specs.declared.elections.Candidates.TheVariants.{AllMembers, Voters}
-use Rattle.raft_calls.specs.declared.message.Message.{Message}
-use Rattle.raft_node.specs.declared.node.Turn.{Turn}
-use Rattle.raft_node.specs.Events.{Scene, aim_of, at_node, at_place, called_at, calls, calls_at, finish, happens, message_at, moment_of, on_engine, place_of, played, skip_reason, turn_of, work_of}
-use Rattle.raft_calls.specs.Elections.{first_entry}
-use Rattle.raft_calls.specs.LeaderCalls.{inflight_to, request_of, value_entry}
-use Rattle.raft_calls.specs.Memberships.{groups_in, members_with, membership_entry}
-use Rattle.raft_node.specs.Net.{Net, NodeView, new_node}
-use Rattle.raft_node.specs.Runs.{History, run, start, whole_logs, with_event, world_after}
-use Rattle.raft_node.specs.Snapshots.{finish_snapshot, kept_built}
-use Rattle.raft_calls.specs.Snapshots.{told_built}
-use Rattle.raft_node.specs.Starts.{unsaved}
-use Rattle.raft_node.specs.Work.{weight, worked}
-use Rattle.raft_node.proofs.Ready.{net_after, scene_after}
+use Rattle.proof_deeds.specs.raft_state.declared.ids.LogId.{LogId}
+use Rattle.proof_deeds.specs.raft_command.declared.config.EngineConfig.{EngineConfig}
+use Rattle.proof_deeds.specs.raft_proposer.Leader.{assigned}
+use Rattle.proof_deeds.specs.raft_steps.Engine.{default_log_id}
+use Rattle.proof_deeds.specs.raft_steps.Parts.{led_of}
+use Rattle.proof_deeds.specs.raft_steps.Refusals.{refusals_of_propose}
+use Rattle.proof_deeds.specs.raft_store.declared.entry.Entry.{Entry}
+use Rattle.proof_deeds.specs.raft_store.declared.entry.Payload.TheVariants.{Blank}
+use Rattle.proof_deeds.specs.raft_store.Entries.{entry_meaning}
+use Rattle.proof_deeds.specs.raft_store.Restart.{forgotten}
+use Rattle.proof_deeds.specs.raft_store.Types.{EngineView, WorldLeader}
+use Rattle.proof_deeds.specs.raft_schedule.declared.event.Event.{Event}
+use Rattle.proof_deeds.specs.raft_schedule.declared.event.EventKind.{EventKind}
+use Rattle.proof_deeds.specs.raft_schedule.declared.event.EventKind.TheVariants as kinds
+use Rattle.proof_deeds.specs.raft_schedule.declared.event.Outcome.{Outcome}
+use Rattle.proof_deeds.specs.raft_schedule.declared.event.Outcome.TheVariants.{Skipped}
+use Rattle.proof_deeds.specs.raft_schedule.declared.event.SkipReason.{SkipReason}
+use Rattle.proof_deeds.specs.raft_schedule.declared.event.SkipReason.TheVariants.{NoMessage, NotRunning}
+use Rattle.proof_deeds.specs.raft_schedule.declared.event.Start.TheVariants.{Plain, Saved, Bare}
+use Rattle.proof_deeds.specs.raft_node.declared.act.Act.{Act}
+use Rattle.proof_deeds.specs.raft_node.declared.act.Act.TheVariants.{ChangeLearners, ChangeMembership, Elect, Fail, FinishSnapshot, Initialize, Propose, Read, Restart, SendHeartbeat, StepDown, Stop, Take, TriggerPurge, TriggerSnapshot}
+use Rattle.proof_deeds.specs.raft_node.declared.act.Aim.{Aim}
+use Rattle.proof_deeds.specs.raft_node.declared.given.Given.{Given}
+use Rattle.proof_deeds.specs.raft_calls.declared.elections.Candidates.TheVariants.{AllMembers, Voters}
+use Rattle.proof_deeds.specs.raft_calls.declared.message.Message.{Message}
+use Rattle.proof_deeds.specs.raft_node.declared.node.Turn.{Turn}
+use Rattle.proof_deeds.specs.raft_node.Events.{Scene, aim_of, at_node, at_place, called_at, calls, calls_at, finish, happens, message_at, moment_of, on_engine, place_of, played, skip_reason, turn_of, work_of}
+use Rattle.proof_deeds.specs.raft_calls.Elections.{first_entry}
+use Rattle.proof_deeds.specs.raft_calls.LeaderCalls.{inflight_to, request_of, value_entry}
+use Rattle.proof_deeds.specs.raft_calls.Memberships.{groups_in, members_with, membership_entry}
+use Rattle.proof_deeds.specs.raft_node.Net.{Net, NodeView, new_node}
+use Rattle.proof_deeds.specs.raft_node.Runs.{History, run, start, whole_logs, with_event, world_after}
+use Rattle.proof_deeds.specs.raft_node.Snapshots.{finish_snapshot, kept_built}
+use Rattle.proof_deeds.specs.raft_calls.Snapshots.{told_built}
+use Rattle.proof_deeds.specs.raft_node.Starts.{unsaved}
+use Rattle.proof_deeds.specs.raft_node.Work.{weight, worked}
+use Rattle.proof_deeds.proofs.raft_node_proofs.Ready.{net_after, scene_after}
 use Rattle.proof_clients.specs.Appends.{sent_in}
 use Rattle.proof_clients.proofs.CallSources.{CleanAt, begun_good, built_good, delivered_good, elected_good, entries_good, heartbeats_good, initialized_good, progressed_good, purged_good, resumed_good, stepped_good, triggered_good}
 use Rattle.proof_clients.proofs.Provenance.{BagGood, RecordsGood, StoreGood, WorkGood, kept_good, restarted_good, worked_good}

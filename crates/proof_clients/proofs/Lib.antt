@@ -1,4 +1,5 @@
 -- In reading order. One log
+pub use Rattle.proof_deeds.proofs as proof_deeds_proofs
 pub mod Slots  -- places of lists
 pub mod Ideals  -- in the ideal world: what is decided is one log, and a leader's own entries are in its log
 pub mod Later  -- two moments of a run, and what the later one has of the earlier

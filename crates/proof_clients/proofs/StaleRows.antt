@@ -8,38 +8,38 @@ use Rattle.std.proofs.lemmas.Bool.Decides.{nat_tests}
 use Rattle.std.proofs.lemmas.List.{take_all}
 use Rattle.std.specs.declared.cmp.Ordering.TheVariants.{Less}
 use Rattle.std.proofs.lemmas.List.Elements.{All-weaker, recursion_from_All}
-use Rattle.raft_state.specs.Order.{leader_id_cmp}
-use Rattle.raft_state.specs.Sorted.{has_id}
+use Rattle.proof_deeds.specs.raft_state.Order.{leader_id_cmp}
+use Rattle.proof_deeds.specs.raft_state.Sorted.{has_id}
 use Rattle.std.specs.BTreeMap.{is_at}
-use Rattle.raft_progress.specs.Quorum.{is_quorum}
-use Rattle.raft_steps.specs.Commit.{commit_by}
-use Rattle.raft_steps.specs.Engine.{elect, handle_vote_resp, initialize, lead_by_votes, take_grant}
-use Rattle.raft_steps.specs.FollowingHandler as following
-use Rattle.raft_steps.specs.FollowingHandler.{append_entries, do_append_entries}
-use Rattle.raft_steps.specs.LeaderHandler.{leader_append_entries, proposed}
-use Rattle.raft_steps.specs.LogHandler.{purge_log, try_purge_log}
-use Rattle.raft_steps.specs.Replies.{purge_unless_inflight, send_next, update_failed_progress, update_leader_clock, update_matching, update_progress, update_success_progress}
-use Rattle.raft_steps.specs.ReplicationHandler.{initiate_replication, rebuild_replication_streams, try_commit_quorum_accepted, update_local_progress}
-use Rattle.raft_steps.specs.Requests as requests
-use Rattle.raft_steps.specs.Requests.{append_answer, follow, handle_append_entries, handle_commit_entries, handle_vote_req, vote_req_answer}
-use Rattle.raft_steps.specs.ServerStateHandler.{update_role}
-use Rattle.raft_steps.specs.Starts.{startup}
-use Rattle.raft_steps.specs.SnapshotHandler.{snapshot_where_due, trigger_snapshot}
-use Rattle.raft_steps.specs.VoteHandler.{become_following, become_leader, begin_lead, lead_anew, update_internal_server_state, update_vote}
-use Rattle.raft_steps.proofs.Example.{lid, three}
-use Rattle.raft_store.specs.declared.entry.Entry.{Entry}
-use Rattle.raft_store.specs.Store.{whole}
-use Rattle.raft_schedule.specs.declared.event.Event.{Event}
-use Rattle.raft_schedule.specs.declared.event.EventKind.{EventKind}
-use Rattle.raft_schedule.specs.declared.event.EventKind.TheVariants.{Deliver, Read, Restart, Timeout}
-use Rattle.raft_schedule.specs.declared.event.Start.TheVariants.{Bare, Plain}
-use Rattle.raft_calls.specs.declared.lead.Answer.{Answer}
-use Rattle.raft_node.specs.Chosen.{effective_in}
-use Rattle.raft_node.specs.Events.{finish, happens, place_of, played}
-use Rattle.raft_calls.specs.Elections.{first_entry}
-use Rattle.raft_node.specs.Net.{NodeView, node_at}
-use Rattle.raft_node.specs.Runs.{with_event, world_after}
-use Rattle.raft_node.specs.Work.{worked}
+use Rattle.proof_deeds.specs.raft_progress.Quorum.{is_quorum}
+use Rattle.proof_deeds.specs.raft_steps.Commit.{commit_by}
+use Rattle.proof_deeds.specs.raft_steps.Engine.{elect, handle_vote_resp, initialize, lead_by_votes, take_grant}
+use Rattle.proof_deeds.specs.raft_steps.FollowingHandler as following
+use Rattle.proof_deeds.specs.raft_steps.FollowingHandler.{append_entries, do_append_entries}
+use Rattle.proof_deeds.specs.raft_steps.LeaderHandler.{leader_append_entries, proposed}
+use Rattle.proof_deeds.specs.raft_steps.LogHandler.{purge_log, try_purge_log}
+use Rattle.proof_deeds.specs.raft_steps.Replies.{purge_unless_inflight, send_next, update_failed_progress, update_leader_clock, update_matching, update_progress, update_success_progress}
+use Rattle.proof_deeds.specs.raft_steps.ReplicationHandler.{initiate_replication, rebuild_replication_streams, try_commit_quorum_accepted, update_local_progress}
+use Rattle.proof_deeds.specs.raft_steps.Requests as requests
+use Rattle.proof_deeds.specs.raft_steps.Requests.{append_answer, follow, handle_append_entries, handle_commit_entries, handle_vote_req, vote_req_answer}
+use Rattle.proof_deeds.specs.raft_steps.ServerStateHandler.{update_role}
+use Rattle.proof_deeds.specs.raft_steps.Starts.{startup}
+use Rattle.proof_deeds.specs.raft_steps.SnapshotHandler.{snapshot_where_due, trigger_snapshot}
+use Rattle.proof_deeds.specs.raft_steps.VoteHandler.{become_following, become_leader, begin_lead, lead_anew, update_internal_server_state, update_vote}
+use Rattle.proof_deeds.proofs.raft_steps_proofs.Example.{lid, three}
+use Rattle.proof_deeds.specs.raft_store.declared.entry.Entry.{Entry}
+use Rattle.proof_deeds.specs.raft_store.Store.{whole}
+use Rattle.proof_deeds.specs.raft_schedule.declared.event.Event.{Event}
+use Rattle.proof_deeds.specs.raft_schedule.declared.event.EventKind.{EventKind}
+use Rattle.proof_deeds.specs.raft_schedule.declared.event.EventKind.TheVariants.{Deliver, Read, Restart, Timeout}
+use Rattle.proof_deeds.specs.raft_schedule.declared.event.Start.TheVariants.{Bare, Plain}
+use Rattle.proof_deeds.specs.raft_calls.declared.lead.Answer.{Answer}
+use Rattle.proof_deeds.specs.raft_node.Chosen.{effective_in}
+use Rattle.proof_deeds.specs.raft_node.Events.{finish, happens, place_of, played}
+use Rattle.proof_deeds.specs.raft_calls.Elections.{first_entry}
+use Rattle.proof_deeds.specs.raft_node.Net.{NodeView, node_at}
+use Rattle.proof_deeds.specs.raft_node.Runs.{with_event, world_after}
+use Rattle.proof_deeds.specs.raft_node.Work.{worked}
 use Rattle.proof_deeds.proofs.Nodes.{node_found}
 use Rattle.proof_deeds.proofs.RunRows.{blank, event, leader, trio}
 use Rattle.proof_clients.specs.Reads.{LeadsOn, Reaches, ReachesLog, StillUnder}

@@ -5,33 +5,33 @@ use Rattle.std.specs.List.{AllByRecursion}
 use Rattle.std.proofs.lemmas.Bool.{true≢false}
 use Rattle.std.specs.Option.{option_to_list}
 use Rattle.std.specs.Ordering.{is_lt, nat_cmp}
-use Rattle.raft_state.specs.Order.{vote_cmp}
-use Rattle.raft_steps.specs.Installs.{handle_install_full_snapshot, reply_install}
-use Rattle.raft_steps.specs.Parts.{on_core}
-use Rattle.raft_state.specs.declared.ids.LogId.{LogId}
-use Rattle.raft_state.specs.declared.ids.Vote.{Vote}
-use Rattle.raft_state.proofs.LogLists.{each_append}
-use Rattle.raft_error.specs.declared.error.EngineError.{EngineError}
-use Rattle.raft_command.specs.declared.command.Command.TheVariants as command
-use Rattle.raft_command.specs.declared.respond.Respond.TheVariants as respond
-use Rattle.raft_steps.specs.RequestRefusals.{refusals_of_append}
-use Rattle.raft_steps.specs.InstallRefusals.{refusals_of_install}
-use Rattle.raft_error.specs.Number.{number_of}
-use Rattle.raft_command.specs.Message.{append_response}
-use Rattle.raft_steps.specs.Requests.{append_answer, append_entries, handle_append_entries}
-use Rattle.raft_steps.specs.VoteHandler.{rejects_vote}
-use Rattle.raft_store.specs.declared.entry.Entry.{Entry}
-use Rattle.raft_store.specs.Entries.{entry_meaning}
-use Rattle.raft_store.specs.Types.{EngineView, WorldCommand, WorldSnapshot}
-use Rattle.raft_calls.specs.declared.message.Body.{Body}
-use Rattle.raft_calls.specs.declared.message.Body.TheVariants as body
-use Rattle.raft_calls.specs.declared.message.Message.{Message}
-use Rattle.raft_calls.specs.declared.message.Origin.{Origin}
-use Rattle.raft_node.specs.declared.node.Turn.{Turn}
-use Rattle.raft_calls.specs.Deliveries.{answered, appended, reply_token, take_append, take_commit, take_snapshot, with_machine}
-use Rattle.raft_calls.specs.Engines.{WorldRespond}
-use Rattle.raft_node.specs.Execute.{replies, reply_to}
-use Rattle.raft_calls.specs.Feeds.{feed}
+use Rattle.proof_deeds.specs.raft_state.Order.{vote_cmp}
+use Rattle.proof_deeds.specs.raft_steps.Installs.{handle_install_full_snapshot, reply_install}
+use Rattle.proof_deeds.specs.raft_steps.Parts.{on_core}
+use Rattle.proof_deeds.specs.raft_state.declared.ids.LogId.{LogId}
+use Rattle.proof_deeds.specs.raft_state.declared.ids.Vote.{Vote}
+use Rattle.proof_deeds.proofs.raft_state_proofs.LogLists.{each_append}
+use Rattle.proof_deeds.specs.raft_error.declared.error.EngineError.{EngineError}
+use Rattle.proof_deeds.specs.raft_command.declared.command.Command.TheVariants as command
+use Rattle.proof_deeds.specs.raft_command.declared.respond.Respond.TheVariants as respond
+use Rattle.proof_deeds.specs.raft_steps.RequestRefusals.{refusals_of_append}
+use Rattle.proof_deeds.specs.raft_steps.InstallRefusals.{refusals_of_install}
+use Rattle.proof_deeds.specs.raft_error.Number.{number_of}
+use Rattle.proof_deeds.specs.raft_command.Message.{append_response}
+use Rattle.proof_deeds.specs.raft_steps.Requests.{append_answer, append_entries, handle_append_entries}
+use Rattle.proof_deeds.specs.raft_steps.VoteHandler.{rejects_vote}
+use Rattle.proof_deeds.specs.raft_store.declared.entry.Entry.{Entry}
+use Rattle.proof_deeds.specs.raft_store.Entries.{entry_meaning}
+use Rattle.proof_deeds.specs.raft_store.Types.{EngineView, WorldCommand, WorldSnapshot}
+use Rattle.proof_deeds.specs.raft_calls.declared.message.Body.{Body}
+use Rattle.proof_deeds.specs.raft_calls.declared.message.Body.TheVariants as body
+use Rattle.proof_deeds.specs.raft_calls.declared.message.Message.{Message}
+use Rattle.proof_deeds.specs.raft_calls.declared.message.Origin.{Origin}
+use Rattle.proof_deeds.specs.raft_node.declared.node.Turn.{Turn}
+use Rattle.proof_deeds.specs.raft_calls.Deliveries.{answered, appended, reply_token, take_append, take_commit, take_snapshot, with_machine}
+use Rattle.proof_deeds.specs.raft_calls.Engines.{WorldRespond}
+use Rattle.proof_deeds.specs.raft_node.Execute.{replies, reply_to}
+use Rattle.proof_deeds.specs.raft_calls.Feeds.{feed}
 use Rattle.proof_clients.specs.Reads.{IsRequestOf, TellsNoVote}
 use Rattle.proof_clients.proofs.Replies.{Replies, Tells}
 

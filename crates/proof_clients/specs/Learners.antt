@@ -1,14 +1,14 @@
 -- Changes of the learners alone: they keep the voter groups, so none is skipped because of these.
 use Rattle.std.specs.Prelude.{◌≢◌, All, List}
-use Rattle.raft_schedule.specs.declared.event.AppliedEvent.{AppliedEvent}
-use Rattle.raft_schedule.specs.declared.event.Event.{Event}
-use Rattle.raft_schedule.specs.declared.event.EventKind.{EventKind}
-use Rattle.raft_schedule.specs.declared.event.EventKind.TheVariants.{Member}
-use Rattle.raft_schedule.specs.declared.event.Outcome.{Outcome}
-use Rattle.raft_schedule.specs.declared.event.Outcome.TheVariants.{Skipped}
-use Rattle.raft_schedule.specs.declared.event.SkipReason.TheVariants.{BadGroups, NoSharedGroup}
-use Rattle.raft_node.specs.declared.given.Given.{Given}
-use Rattle.raft_node.specs.Runs.{run, start, whole_logs}
+use Rattle.proof_deeds.specs.raft_schedule.declared.event.AppliedEvent.{AppliedEvent}
+use Rattle.proof_deeds.specs.raft_schedule.declared.event.Event.{Event}
+use Rattle.proof_deeds.specs.raft_schedule.declared.event.EventKind.{EventKind}
+use Rattle.proof_deeds.specs.raft_schedule.declared.event.EventKind.TheVariants.{Member}
+use Rattle.proof_deeds.specs.raft_schedule.declared.event.Outcome.{Outcome}
+use Rattle.proof_deeds.specs.raft_schedule.declared.event.Outcome.TheVariants.{Skipped}
+use Rattle.proof_deeds.specs.raft_schedule.declared.event.SkipReason.TheVariants.{BadGroups, NoSharedGroup}
+use Rattle.proof_deeds.specs.raft_node.declared.given.Given.{Given}
+use Rattle.proof_deeds.specs.raft_node.Runs.{run, start, whole_logs}
 
 -- the present groups are one to four, and they are shared: neither is a reason to skip such a change
 abbrev pub KeepsGroups : EventKind → Outcome → Type 0

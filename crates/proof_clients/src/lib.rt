@@ -4,10 +4,10 @@
 
 ghost use Rattle.std.specs.Prelude.{List};
 ghost use Rattle.std.specs.Ordering.{nat_cmp};
-ghost use Rattle.raft_state.specs.Sorted.{IsSound};
-ghost use Rattle.raft_schedule.specs.declared.event.Event.{Event};
-ghost use Rattle.raft_node.specs.declared.given.Given.{Given};
-ghost use Rattle.raft_node.specs.WellFormed.{IsWellFormed};
+ghost use Rattle.proof_deeds.specs.raft_state.Sorted.{IsSound};
+ghost use Rattle.proof_deeds.specs.raft_schedule.declared.event.Event.{Event};
+ghost use Rattle.proof_deeds.specs.raft_node.declared.given.Given.{Given};
+ghost use Rattle.proof_deeds.specs.raft_node.WellFormed.{IsWellFormed};
 ghost use Rattle.proof_deeds.specs.WorldLaws.{OfEachWorld};
 ghost use Rattle.proof_clients.specs.OneLog.{AppliedAreOne, DecidedAreOne, DecidedStay};
 ghost use Rattle.proof_clients.specs.Appends.{AppendsNew, AppendsOnce, AppliedBefore, ProposalsAppend};

@@ -5,8 +5,8 @@ use Rattle.std.specs.List.{AllByRecursion}
 use Rattle.proof_agreement.specs.Machine.{Setup, Includes}
 use Rattle.proof_agreement.specs.Stores.{Accepted, Session, last_leader_of}
 use Rattle.proof_agreement.specs.Deeds.{AcceptAppend, AcceptSnapshot, AnswerVote, CommitByQuorum, RequestVotes, SendAppend, SendSnapshot, does, run_all, say}
-use Rattle.raft_store.specs.declared.entry.Entry.{Entry}
-use Rattle.raft_calls.specs.declared.message.Message.{Message}
+use Rattle.raft_node.specs.raft_store.declared.entry.Entry.{Entry}
+use Rattle.raft_node.specs.raft_calls.declared.message.Message.{Message}
 use Rattle.proof_deeds.specs.Chains.{IsAcknowledged, AcceptsAcknowledged}
 use Rattle.proof_deeds.specs.Images.{Ideal, IdealDeed, IdealMessage}
 use Rattle.proof_deeds.proofs.Runs.{AllAcknowledged}

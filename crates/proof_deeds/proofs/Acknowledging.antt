@@ -6,33 +6,33 @@ use Rattle.std.specs.Option.{option_map}
 use Rattle.std.specs.Ordering.{is_eq, is_ge, nat_cmp}
 use Rattle.std.proofs.lemmas.Bool.{cond_both}
 use Rattle.std.proofs.lemmas.Cmp.{nat_cmp_total}
-use Rattle.raft_state.specs.declared.ids.LogId.{LogId}
-use Rattle.raft_state.specs.Fits.{fits}
-use Rattle.raft_state.specs.Order.{last_id_cmp}
-use Rattle.raft_state.specs.Same.{nat_same}
-use Rattle.raft_state.proofs.Orders.{is_equal}
-use Rattle.raft_progress_entry.specs.declared.entry.ProgressEntry.{ProgressEntry}
-use Rattle.raft_progress_entry.specs.Entry.{silenced, matched, conflicted}
-use Rattle.raft_progress.specs.Table.{get, row_of, is_row_of, with_value}
-use Rattle.raft_command.specs.Replication.{number_of}
-use Rattle.raft_command.specs.declared.config.EngineConfig.{EngineConfig}
-use Rattle.raft_command.specs.declared.replication.RequestId.{RequestId}
-use Rattle.raft_steps.specs.Invariants.{EntryFits, IsSoundLed}
-use Rattle.raft_steps.specs.ReplicationHandler.{own_matched, with_entry, commit_granted, update_local_progress}
-use Rattle.raft_steps.specs.Replies.{on_entry, update_leader_clock, update_conflicting, update_failed_progress, update_matching}
-use Rattle.raft_steps.specs.ReplyRefusals.{refusals_of_entry, refusals_of_acknowledged}
-use Rattle.raft_steps.proofs.EntryLaws.{own_matched_fits, fits_end}
-use Rattle.raft_steps.proofs.KeptCommit.{row_each, entry_kept}
-use Rattle.raft_steps.proofs.KeptLead.{each_image}
-use Rattle.raft_steps.proofs.KeptReplies.{noted_kept}
+use Rattle.raft_node.specs.raft_state.declared.ids.LogId.{LogId}
+use Rattle.raft_node.specs.raft_state.Fits.{fits}
+use Rattle.raft_node.specs.raft_state.Order.{last_id_cmp}
+use Rattle.raft_node.specs.raft_state.Same.{nat_same}
+use Rattle.raft_node.proofs.raft_state_proofs.Orders.{is_equal}
+use Rattle.raft_node.specs.raft_progress_entry.declared.entry.ProgressEntry.{ProgressEntry}
+use Rattle.raft_node.specs.raft_progress_entry.Entry.{silenced, matched, conflicted}
+use Rattle.raft_node.specs.raft_progress.Table.{get, row_of, is_row_of, with_value}
+use Rattle.raft_node.specs.raft_command.Replication.{number_of}
+use Rattle.raft_node.specs.raft_command.declared.config.EngineConfig.{EngineConfig}
+use Rattle.raft_node.specs.raft_command.declared.replication.RequestId.{RequestId}
+use Rattle.raft_node.specs.raft_steps.Invariants.{EntryFits, IsSoundLed}
+use Rattle.raft_node.specs.raft_steps.ReplicationHandler.{own_matched, with_entry, commit_granted, update_local_progress}
+use Rattle.raft_node.specs.raft_steps.Replies.{on_entry, update_leader_clock, update_conflicting, update_failed_progress, update_matching}
+use Rattle.raft_node.specs.raft_steps.ReplyRefusals.{refusals_of_entry, refusals_of_acknowledged}
+use Rattle.raft_node.proofs.raft_steps_proofs.EntryLaws.{own_matched_fits, fits_end}
+use Rattle.raft_node.proofs.raft_steps_proofs.KeptCommit.{row_each, entry_kept}
+use Rattle.raft_node.proofs.raft_steps_proofs.KeptLead.{each_image}
+use Rattle.raft_node.proofs.raft_steps_proofs.KeptReplies.{noted_kept}
 use Rattle.proof_agreement.specs.Machine.{Setup}
 use Rattle.proof_agreement.specs.Deeds.{HasAccepted}
-use Rattle.raft_store.specs.Entries.{entry_meaning}
-use Rattle.raft_store.specs.declared.entry.Entry as world
-use Rattle.raft_store.specs.Types.{WorldStore}
+use Rattle.raft_node.specs.raft_store.Entries.{entry_meaning}
+use Rattle.raft_node.specs.raft_store.declared.entry.Entry as world
+use Rattle.raft_node.specs.raft_store.Types.{WorldStore}
 use Rattle.proof_mirror.specs.Ready.{InStep}
 use Rattle.raft_node.specs.declared.node.Turn.{Turn}
-use Rattle.raft_calls.specs.Feeds.{WorldLed}
+use Rattle.raft_node.specs.raft_calls.Feeds.{WorldLed}
 use Rattle.proof_deeds.specs.Chains.{left_by}
 use Rattle.proof_deeds.specs.Images.{Ideal, number}
 use Rattle.proof_deeds.specs.Knows.{KnowsMatch}

@@ -1,21 +1,21 @@
 -- All laws of calls, and what else holds of an engine: its committed membership was decided, or is at or below its
 -- committed index, or is the first entry's.
 use Rattle.std.proofs.Common.{ℕ, ◌≡◌, [], Option, None}
-use Rattle.raft_state.specs.declared.ids.LogId.{LogId}
-use Rattle.raft_state.specs.declared.membership.Members.{Members}
+use Rattle.raft_node.specs.raft_state.declared.ids.LogId.{LogId}
+use Rattle.raft_node.specs.raft_state.declared.membership.Members.{Members}
 use Rattle.std.specs.Ordering.{nat_cmp}
 use Rattle.std.proofs.lemmas.Cmp.{nat_cmp_total}
-use Rattle.raft_state.specs.Same.{nat_same}
-use Rattle.raft_error.specs.declared.error.EngineError.TheVariants.{CommittedNotHeld}
-use Rattle.raft_command.specs.declared.config.EngineConfig.{EngineConfig}
-use Rattle.raft_steps.specs.FollowingHandler.{commit_entries, commit_target}
-use Rattle.raft_steps.specs.RequestRefusals.{refusals_of_commit, is_missing}
-use Rattle.raft_steps.specs.Requests.{handle_commit_entries}
-use Rattle.raft_steps.proofs.Unrefused.{neither, test_fails}
-use Rattle.raft_store.specs.Entries.{entry_meaning}
+use Rattle.raft_node.specs.raft_state.Same.{nat_same}
+use Rattle.raft_node.specs.raft_error.declared.error.EngineError.TheVariants.{CommittedNotHeld}
+use Rattle.raft_node.specs.raft_command.declared.config.EngineConfig.{EngineConfig}
+use Rattle.raft_node.specs.raft_steps.FollowingHandler.{commit_entries, commit_target}
+use Rattle.raft_node.specs.raft_steps.RequestRefusals.{refusals_of_commit, is_missing}
+use Rattle.raft_node.specs.raft_steps.Requests.{handle_commit_entries}
+use Rattle.raft_node.proofs.raft_steps_proofs.Unrefused.{neither, test_fails}
+use Rattle.raft_node.specs.raft_store.Entries.{entry_meaning}
 use Rattle.proof_mirror.proofs.Sound.{held_commit}
 use Rattle.raft_node.specs.declared.node.Turn.{Turn}
-use Rattle.raft_store.specs.Types.{WorldMachine, WorldStore}
+use Rattle.raft_node.specs.raft_store.Types.{WorldMachine, WorldStore}
 use Rattle.proof_deeds.specs.Images.{Ideal, setup_of}
 use Rattle.proof_deeds.specs.Knows.{Stands}
 use Rattle.proof_deeds.proofs.AppendCommits.{carried_commit}

@@ -3,32 +3,32 @@ use Rattle.std.proofs.Common.{ℕ, ◌≡◌, ◌≢◌, false, ◌++◌, Option
 use Rattle.std.specs.Prelude.{IfSome}
 use Rattle.std.specs.Ordering.{nat_cmp}
 use Rattle.std.proofs.lemmas.Cmp.{nat_cmp_total}
-use Rattle.raft_state.specs.declared.ids.LogId.{LogId}
-use Rattle.raft_state.specs.Same.{nat_same}
-use Rattle.raft_progress_entry.specs.declared.entry.Inflight.{Inflight}
-use Rattle.raft_progress_entry.specs.declared.entry.ProgressEntry.{ProgressEntry}
-use Rattle.raft_progress_entry.specs.Entry.{refusals_of_conflicted, next_send, sent}
-use Rattle.raft_progress.specs.Table.{get}
-use Rattle.raft_command.specs.Queue.{queued}
-use Rattle.raft_command.specs.Replication.{number_of}
-use Rattle.raft_command.specs.declared.config.EngineConfig.{EngineConfig}
-use Rattle.raft_command.specs.declared.replication.ReplicationResult.{ReplicationResult}
-use Rattle.raft_command.specs.declared.replication.RequestId.{RequestId}
-use Rattle.raft_steps.specs.Invariants.{EntryFits, IsSoundLed}
-use Rattle.raft_steps.specs.Parts.{under}
-use Rattle.raft_steps.specs.ReplicationHandler.{send_commands, with_entry}
-use Rattle.raft_steps.specs.Replies.{update_leader_clock, update_conflicting, update_matching, update_success_progress, send_next, take_reply}
-use Rattle.raft_steps.specs.ReplyRefusals.{refusals_of_entry, refusals_of_acknowledged, refusals_of_answer, refusals_of_result}
-use Rattle.raft_steps.proofs.KeptCommit.{row_each}
-use Rattle.raft_steps.proofs.KeptReplies.{clock_kept}
+use Rattle.raft_node.specs.raft_state.declared.ids.LogId.{LogId}
+use Rattle.raft_node.specs.raft_state.Same.{nat_same}
+use Rattle.raft_node.specs.raft_progress_entry.declared.entry.Inflight.{Inflight}
+use Rattle.raft_node.specs.raft_progress_entry.declared.entry.ProgressEntry.{ProgressEntry}
+use Rattle.raft_node.specs.raft_progress_entry.Entry.{refusals_of_conflicted, next_send, sent}
+use Rattle.raft_node.specs.raft_progress.Table.{get}
+use Rattle.raft_node.specs.raft_command.Queue.{queued}
+use Rattle.raft_node.specs.raft_command.Replication.{number_of}
+use Rattle.raft_node.specs.raft_command.declared.config.EngineConfig.{EngineConfig}
+use Rattle.raft_node.specs.raft_command.declared.replication.ReplicationResult.{ReplicationResult}
+use Rattle.raft_node.specs.raft_command.declared.replication.RequestId.{RequestId}
+use Rattle.raft_node.specs.raft_steps.Invariants.{EntryFits, IsSoundLed}
+use Rattle.raft_node.specs.raft_steps.Parts.{under}
+use Rattle.raft_node.specs.raft_steps.ReplicationHandler.{send_commands, with_entry}
+use Rattle.raft_node.specs.raft_steps.Replies.{update_leader_clock, update_conflicting, update_matching, update_success_progress, send_next, take_reply}
+use Rattle.raft_node.specs.raft_steps.ReplyRefusals.{refusals_of_entry, refusals_of_acknowledged, refusals_of_answer, refusals_of_result}
+use Rattle.raft_node.proofs.raft_steps_proofs.KeptCommit.{row_each}
+use Rattle.raft_node.proofs.raft_steps_proofs.KeptReplies.{clock_kept}
 use Rattle.proof_agreement.specs.Machine.{Setup}
-use Rattle.raft_store.specs.Entries.{entry_meaning}
-use Rattle.raft_store.specs.declared.entry.Entry as world
-use Rattle.raft_store.specs.Types.{WorldStore}
+use Rattle.raft_node.specs.raft_store.Entries.{entry_meaning}
+use Rattle.raft_node.specs.raft_store.declared.entry.Entry as world
+use Rattle.raft_node.specs.raft_store.Types.{WorldStore}
 use Rattle.proof_mirror.specs.Ready.{Ordered, Pending, PendingLed}
 use Rattle.proof_mirror.proofs.Sends.{next_there}
 use Rattle.raft_node.specs.declared.node.Turn.{Turn}
-use Rattle.raft_calls.specs.Feeds.{WorldLed}
+use Rattle.raft_node.specs.raft_calls.Feeds.{WorldLed}
 use Rattle.proof_deeds.specs.Chains.{Reached, left_by}
 use Rattle.proof_deeds.specs.Images.{Ideal, number}
 use Rattle.proof_deeds.specs.Knows.{KnowsMatch}

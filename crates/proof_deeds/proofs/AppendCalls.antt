@@ -9,36 +9,36 @@ use Rattle.std.proofs.lemmas.Bool.{cond_both, both_ways}
 use Rattle.std.proofs.lemmas.Cmp.{nat_cmp_total}
 use Rattle.std.proofs.lemmas.List.{length-map, length-drop}
 use Rattle.std.proofs.lemmas.List.Sums.{prefix_len-le-length}
-use Rattle.raft_state.specs.declared.ids.LeaderId.{LeaderId}
-use Rattle.raft_state.specs.declared.ids.LogId.{LogId}
-use Rattle.raft_state.specs.declared.ids.Vote.{Vote}
-use Rattle.raft_state.specs.Log.{last}
-use Rattle.raft_state.specs.Order.{next, last_id_cmp}
-use Rattle.raft_state.specs.Same.{nat_same}
-use Rattle.raft_state.specs.State.{accept, accepted, accepted_under, has_log_id}
-use Rattle.raft_state.proofs.Orders.{leader_total}
-use Rattle.raft_command.specs.declared.config.EngineConfig.{EngineConfig}
-use Rattle.raft_steps.specs.FollowingHandler.{memberships_in, with_entries, do_append_entries, is_held, new_entries, holds_previous, truncate_logs, truncate_for, ensure_log_consecutive}
-use Rattle.raft_steps.specs.FollowingHandler as following
-use Rattle.raft_steps.specs.Laws.{later}
-use Rattle.raft_steps.specs.Parts.{with_state}
-use Rattle.raft_steps.specs.Requests.{follow}
-use Rattle.raft_steps.specs.ServerStateHandler.{update_role}
-use Rattle.raft_steps.proofs.KeptAppend.{past_committed, truncate_case, new_missing, IsMissing}
-use Rattle.raft_steps.proofs.Marks.{SameMarks, truncate_marks, follow_marks}
+use Rattle.raft_node.specs.raft_state.declared.ids.LeaderId.{LeaderId}
+use Rattle.raft_node.specs.raft_state.declared.ids.LogId.{LogId}
+use Rattle.raft_node.specs.raft_state.declared.ids.Vote.{Vote}
+use Rattle.raft_node.specs.raft_state.Log.{last}
+use Rattle.raft_node.specs.raft_state.Order.{next, last_id_cmp}
+use Rattle.raft_node.specs.raft_state.Same.{nat_same}
+use Rattle.raft_node.specs.raft_state.State.{accept, accepted, accepted_under, has_log_id}
+use Rattle.raft_node.proofs.raft_state_proofs.Orders.{leader_total}
+use Rattle.raft_node.specs.raft_command.declared.config.EngineConfig.{EngineConfig}
+use Rattle.raft_node.specs.raft_steps.FollowingHandler.{memberships_in, with_entries, do_append_entries, is_held, new_entries, holds_previous, truncate_logs, truncate_for, ensure_log_consecutive}
+use Rattle.raft_node.specs.raft_steps.FollowingHandler as following
+use Rattle.raft_node.specs.raft_steps.Laws.{later}
+use Rattle.raft_node.specs.raft_steps.Parts.{with_state}
+use Rattle.raft_node.specs.raft_steps.Requests.{follow}
+use Rattle.raft_node.specs.raft_steps.ServerStateHandler.{update_role}
+use Rattle.raft_node.proofs.raft_steps_proofs.KeptAppend.{past_committed, truncate_case, new_missing, IsMissing}
+use Rattle.raft_node.proofs.raft_steps_proofs.Marks.{SameMarks, truncate_marks, follow_marks}
 use Rattle.proof_agreement.specs.Machine.{Setup, Includes}
 use Rattle.proof_agreement.specs.Stores.{Append, AppendRequest, entry_at}
 use Rattle.proof_agreement.specs.Deeds.{TruncateConflict, Names, Holds, MayAccept, does}
-use Rattle.raft_store.specs.declared.entry.Entry.{Entry}
-use Rattle.raft_store.specs.Entries.{entry_meaning}
-use Rattle.raft_store.specs.Types.{WorldStore}
-use Rattle.raft_store.proofs.Lists.{Run}
+use Rattle.raft_node.specs.raft_store.declared.entry.Entry.{Entry}
+use Rattle.raft_node.specs.raft_store.Entries.{entry_meaning}
+use Rattle.raft_node.specs.raft_store.Types.{WorldStore}
+use Rattle.raft_node.proofs.raft_store_proofs.Lists.{Run}
 use Rattle.proof_mirror.specs.Ready.{InStep, Pending, LeavesBefore, AppendFits}
 use Rattle.proof_mirror.proofs.Following.{CutTo, pending_truncate, previous_reaches, held_reaches}
 use Rattle.proof_mirror.proofs.Puts.{with_is}
 use Rattle.proof_mirror.proofs.Queued.{awaits_state, step_alike}
 use Rattle.raft_node.specs.declared.node.Turn.{Turn}
-use Rattle.raft_calls.specs.declared.message.Origin.{Origin}
+use Rattle.raft_node.specs.raft_calls.declared.message.Origin.{Origin}
 use Rattle.proof_deeds.specs.Chains.{Reached, left_by, Carried}
 use Rattle.proof_deeds.specs.Follows.{StoreIs, AppendIs}
 use Rattle.proof_deeds.specs.Images.{Ideal, IdNamed, IsWellFormedEntry, EntriesFit, number}

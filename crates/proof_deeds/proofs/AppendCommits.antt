@@ -6,49 +6,49 @@ use Rattle.std.specs.Ordering.{is_eq, is_le, is_lt, nat_cmp, ordering_then}
 use Rattle.std.proofs.lemmas.Bool.{cases_lt, cond_both, both_ways, or_cases}
 use Rattle.std.proofs.lemmas.Bool.Decides.{nat_tests}
 use Rattle.std.proofs.lemmas.Cmp.{nat_cmp_total}
-use Rattle.raft_state.specs.declared.ids.LeaderId.{LeaderId}
-use Rattle.raft_state.specs.declared.ids.LogId.{LogId}
-use Rattle.raft_state.specs.declared.ids.Vote.{Vote}
-use Rattle.raft_state.specs.declared.membership.Members.{Members}
-use Rattle.raft_state.specs.Fits.{fits, is_within}
-use Rattle.raft_state.specs.Invariants.{IsSoundState, AcceptedRecord}
-use Rattle.raft_state.specs.Log.{at}
-use Rattle.raft_state.specs.Order.{next, last_id_cmp, leader_id_cmp}
-use Rattle.raft_state.specs.Policy.{should_snapshot}
-use Rattle.raft_state.specs.Same.{nat_same}
-use Rattle.raft_state.specs.State.{accepted, accepted_under, commit, commits, settle}
-use Rattle.raft_state.proofs.Orders.{le_lt, lt_of_gt, lt_is_le, lt_not_ge, last_total, within_le}
-use Rattle.raft_command.specs.Push.{ordered as ordered_payload, committed_upto}
-use Rattle.raft_command.specs.Queue.{queued}
-use Rattle.raft_command.specs.declared.command.Command.TheVariants as command
-use Rattle.raft_command.specs.declared.config.EngineConfig.{EngineConfig}
-use Rattle.raft_command.specs.declared.sm.CommandPayload.TheVariants as payload
-use Rattle.raft_steps.specs.Commit.{commit_by}
-use Rattle.raft_steps.specs.Conditions.{IsFollowing}
-use Rattle.raft_steps.specs.FollowingHandler.{commit_target, commit_entries}
-use Rattle.raft_steps.specs.Parts.{on_core}
-use Rattle.raft_steps.specs.RequestRefusals.{is_missing, refusals_of_commit}
-use Rattle.raft_steps.specs.Requests.{handle_commit_entries}
-use Rattle.raft_steps.specs.SnapshotHandler.{trigger_snapshot, snapshot_where_due}
-use Rattle.raft_steps.proofs.EntryLaws.{fits_le}
-use Rattle.raft_steps.proofs.Kept.{commit_by_case}
-use Rattle.raft_steps.proofs.Unrefused.{test_fails, neither}
-use Rattle.raft_error.specs.declared.error.EngineError.TheVariants.{CommittedNotHeld}
+use Rattle.raft_node.specs.raft_state.declared.ids.LeaderId.{LeaderId}
+use Rattle.raft_node.specs.raft_state.declared.ids.LogId.{LogId}
+use Rattle.raft_node.specs.raft_state.declared.ids.Vote.{Vote}
+use Rattle.raft_node.specs.raft_state.declared.membership.Members.{Members}
+use Rattle.raft_node.specs.raft_state.Fits.{fits, is_within}
+use Rattle.raft_node.specs.raft_state.Invariants.{IsSoundState, AcceptedRecord}
+use Rattle.raft_node.specs.raft_state.Log.{at}
+use Rattle.raft_node.specs.raft_state.Order.{next, last_id_cmp, leader_id_cmp}
+use Rattle.raft_node.specs.raft_state.Policy.{should_snapshot}
+use Rattle.raft_node.specs.raft_state.Same.{nat_same}
+use Rattle.raft_node.specs.raft_state.State.{accepted, accepted_under, commit, commits, settle}
+use Rattle.raft_node.proofs.raft_state_proofs.Orders.{le_lt, lt_of_gt, lt_is_le, lt_not_ge, last_total, within_le}
+use Rattle.raft_node.specs.raft_command.Push.{ordered as ordered_payload, committed_upto}
+use Rattle.raft_node.specs.raft_command.Queue.{queued}
+use Rattle.raft_node.specs.raft_command.declared.command.Command.TheVariants as command
+use Rattle.raft_node.specs.raft_command.declared.config.EngineConfig.{EngineConfig}
+use Rattle.raft_node.specs.raft_command.declared.sm.CommandPayload.TheVariants as payload
+use Rattle.raft_node.specs.raft_steps.Commit.{commit_by}
+use Rattle.raft_node.specs.raft_steps.Conditions.{IsFollowing}
+use Rattle.raft_node.specs.raft_steps.FollowingHandler.{commit_target, commit_entries}
+use Rattle.raft_node.specs.raft_steps.Parts.{on_core}
+use Rattle.raft_node.specs.raft_steps.RequestRefusals.{is_missing, refusals_of_commit}
+use Rattle.raft_node.specs.raft_steps.Requests.{handle_commit_entries}
+use Rattle.raft_node.specs.raft_steps.SnapshotHandler.{trigger_snapshot, snapshot_where_due}
+use Rattle.raft_node.proofs.raft_steps_proofs.EntryLaws.{fits_le}
+use Rattle.raft_node.proofs.raft_steps_proofs.Kept.{commit_by_case}
+use Rattle.raft_node.proofs.raft_steps_proofs.Unrefused.{test_fails, neither}
+use Rattle.raft_node.specs.raft_error.declared.error.EngineError.TheVariants.{CommittedNotHeld}
 use Rattle.proof_agreement.specs.Machine.{Setup, start}
 use Rattle.proof_agreement.specs.Stores.{Append, whole, entry_at}
 use Rattle.proof_agreement.specs.Deeds.{FollowerCommit, FromLeader, MayAccept, MayCommit, with_committed}
 use Rattle.proof_agreement.proofs.StoresBridge.{told_below}
-use Rattle.raft_store.specs.declared.entry.Entry.{Entry}
-use Rattle.raft_store.specs.Entries.{entry_meaning}
-use Rattle.raft_store.specs.Store as store
-use Rattle.raft_store.specs.Types.{WorldStore, WorldCommand, WorldMachine}
+use Rattle.raft_node.specs.raft_store.declared.entry.Entry.{Entry}
+use Rattle.raft_node.specs.raft_store.Entries.{entry_meaning}
+use Rattle.raft_node.specs.raft_store.Store as store
+use Rattle.raft_node.specs.raft_store.Types.{WorldStore, WorldCommand, WorldMachine}
 use Rattle.proof_mirror.specs.Ready.{InStep, CommitFits}
 use Rattle.proof_mirror.proofs.Commits.{step_commit}
 use Rattle.proof_mirror.proofs.Shape.{Shape, shape_of}
 use Rattle.proof_mirror.proofs.Sound.{held_commit}
-use Rattle.raft_calls.specs.declared.message.Body.TheVariants as body
-use Rattle.raft_calls.specs.declared.message.Message.{Message}
-use Rattle.raft_calls.specs.declared.message.Origin.{Origin}
+use Rattle.raft_node.specs.raft_calls.declared.message.Body.TheVariants as body
+use Rattle.raft_node.specs.raft_calls.declared.message.Message.{Message}
+use Rattle.raft_node.specs.raft_calls.declared.message.Origin.{Origin}
 use Rattle.raft_node.specs.declared.node.Turn.{Turn}
 use Rattle.proof_deeds.specs.Chains.{left_by, stored, Done, Carried, Does}
 use Rattle.proof_deeds.specs.Follows.{AppendSent}

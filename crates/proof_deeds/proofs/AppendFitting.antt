@@ -7,35 +7,35 @@ use Rattle.std.specs.Ordering.{is_eq, is_lt, nat_cmp, bool_cmp, ordering_then}
 use Rattle.std.proofs.lemmas.Cmp.{nat_cmp_total}
 use Rattle.std.proofs.lemmas.List.{length-map}
 use Rattle.std.specs.declared.cmp.Ordering.TheVariants.{Less}
-use Rattle.raft_state.specs.declared.ids.LeaderId.{LeaderId}
-use Rattle.raft_state.specs.declared.ids.LogId.{LogId}
-use Rattle.raft_state.specs.declared.ids.Vote.{Vote}
-use Rattle.raft_state.specs.declared.membership.Members.{Members}
-use Rattle.raft_state.specs.declared.membership.StoredMembership.{StoredMembership}
-use Rattle.raft_state.specs.Order.{next, vote_cmp}
-use Rattle.raft_state.specs.Same.{nat_same}
-use Rattle.raft_state.specs.State.{has_log_id}
-use Rattle.raft_command.specs.declared.config.EngineConfig.{EngineConfig}
-use Rattle.raft_steps.specs.FollowingHandler.{is_held, memberships_in, new_entries}
-use Rattle.raft_steps.specs.RequestRefusals.{refusals_of_append}
-use Rattle.raft_steps.specs.VoteHandler.{rejects_vote, update_vote}
-use Rattle.raft_steps.proofs.KeptAppend.{new_missing, past_committed, IsMissing}
-use Rattle.raft_steps.proofs.KeptFollow.{heard_case}
+use Rattle.raft_node.specs.raft_state.declared.ids.LeaderId.{LeaderId}
+use Rattle.raft_node.specs.raft_state.declared.ids.LogId.{LogId}
+use Rattle.raft_node.specs.raft_state.declared.ids.Vote.{Vote}
+use Rattle.raft_node.specs.raft_state.declared.membership.Members.{Members}
+use Rattle.raft_node.specs.raft_state.declared.membership.StoredMembership.{StoredMembership}
+use Rattle.raft_node.specs.raft_state.Order.{next, vote_cmp}
+use Rattle.raft_node.specs.raft_state.Same.{nat_same}
+use Rattle.raft_node.specs.raft_state.State.{has_log_id}
+use Rattle.raft_node.specs.raft_command.declared.config.EngineConfig.{EngineConfig}
+use Rattle.raft_node.specs.raft_steps.FollowingHandler.{is_held, memberships_in, new_entries}
+use Rattle.raft_node.specs.raft_steps.RequestRefusals.{refusals_of_append}
+use Rattle.raft_node.specs.raft_steps.VoteHandler.{rejects_vote, update_vote}
+use Rattle.raft_node.proofs.raft_steps_proofs.KeptAppend.{new_missing, past_committed, IsMissing}
+use Rattle.raft_node.proofs.raft_steps_proofs.KeptFollow.{heard_case}
 use Rattle.proof_agreement.specs.Machine.{Setup, Includes, start}
 use Rattle.proof_agreement.specs.Stores.{Append, AppendRequest, whole, entry_at}
 use Rattle.proof_agreement.specs.Deeds.{Names, MayTruncateConflict}
-use Rattle.raft_store.specs.declared.entry.Entry.{Entry}
-use Rattle.raft_store.specs.Entries.{entry_meaning, members_of}
-use Rattle.raft_store.specs.Mirror.{none}
-use Rattle.raft_store.specs.Store as store
-use Rattle.raft_store.specs.Types.{WorldStore, WorldMachine}
-use Rattle.raft_store.proofs.Lists.{Run}
+use Rattle.raft_node.specs.raft_store.declared.entry.Entry.{Entry}
+use Rattle.raft_node.specs.raft_store.Entries.{entry_meaning, members_of}
+use Rattle.raft_node.specs.raft_store.Mirror.{none}
+use Rattle.raft_node.specs.raft_store.Store as store
+use Rattle.raft_node.specs.raft_store.Types.{WorldStore, WorldMachine}
+use Rattle.raft_node.proofs.raft_store_proofs.Lists.{Run}
 use Rattle.proof_mirror.specs.Ready.{InStep, Pending, LeavesMembership, LeavesBefore, AppendFits}
 use Rattle.proof_mirror.proofs.Ends.{Each, ends_each}
 use Rattle.proof_mirror.proofs.Shape.{shape_of, shaped_of, whole_run}
-use Rattle.raft_calls.specs.declared.message.Body.TheVariants as body
-use Rattle.raft_calls.specs.declared.message.Message.{Message}
-use Rattle.raft_calls.specs.declared.message.Origin.{Origin}
+use Rattle.raft_node.specs.raft_calls.declared.message.Body.TheVariants as body
+use Rattle.raft_node.specs.raft_calls.declared.message.Message.{Message}
+use Rattle.raft_node.specs.raft_calls.declared.message.Origin.{Origin}
 use Rattle.raft_node.specs.declared.node.Turn.{Turn}
 use Rattle.proof_deeds.specs.Chains.{Unread, Does, Reached, left_by, Carried}
 use Rattle.proof_deeds.specs.Follows.{StoreIs, AppendIs}

@@ -4,24 +4,24 @@ use Rattle.std.specs.Prelude.{IfSome, nat_lt, ◌&&◌, ◌||◌}
 use Rattle.std.specs.Ordering.{is_gt, is_le, is_lt, nat_cmp}
 use Rattle.std.proofs.lemmas.Bool.{cases_lt, both_ways, or_cases, ltb-true}
 use Rattle.std.proofs.lemmas.Cmp.{nat_cmp_total}
-use Rattle.raft_state.specs.declared.ids.LogId.{LogId}
-use Rattle.raft_state.specs.Fits.{fits, is_below, is_within}
-use Rattle.raft_state.specs.Invariants.{IsSoundState}
-use Rattle.raft_state.specs.Log.{at}
-use Rattle.raft_state.specs.Order.{next, last_id_cmp}
-use Rattle.raft_state.specs.Same.{found_is, nat_same}
-use Rattle.raft_state.specs.State.{accepted, commits, has_log_id, is_found}
-use Rattle.raft_state.proofs.Orders.{and_both, lt_is_le, lt_le, lt_of_gt, lt_not_ge, last_total, within_le}
-use Rattle.raft_state.proofs.StateLaws.{purged_within}
-use Rattle.raft_steps.specs.FollowingHandler.{commit_target}
-use Rattle.raft_steps.specs.RequestRefusals.{is_missing}
+use Rattle.raft_node.specs.raft_state.declared.ids.LogId.{LogId}
+use Rattle.raft_node.specs.raft_state.Fits.{fits, is_below, is_within}
+use Rattle.raft_node.specs.raft_state.Invariants.{IsSoundState}
+use Rattle.raft_node.specs.raft_state.Log.{at}
+use Rattle.raft_node.specs.raft_state.Order.{next, last_id_cmp}
+use Rattle.raft_node.specs.raft_state.Same.{found_is, nat_same}
+use Rattle.raft_node.specs.raft_state.State.{accepted, commits, has_log_id, is_found}
+use Rattle.raft_node.proofs.raft_state_proofs.Orders.{and_both, lt_is_le, lt_le, lt_of_gt, lt_not_ge, last_total, within_le}
+use Rattle.raft_node.proofs.raft_state_proofs.StateLaws.{purged_within}
+use Rattle.raft_node.specs.raft_steps.FollowingHandler.{commit_target}
+use Rattle.raft_node.specs.raft_steps.RequestRefusals.{is_missing}
 use Rattle.proof_agreement.specs.Machine.{Setup, start}
 use Rattle.proof_agreement.specs.Stores.{Append, whole, entry_at}
 use Rattle.proof_agreement.specs.Deeds.{FromLeader, MayAccept}
 use Rattle.proof_agreement.proofs.StoresBridge.{ids_rise, told_above, told_held}
-use Rattle.raft_store.specs.declared.entry.Entry.{Entry}
-use Rattle.raft_store.specs.Entries.{entry_meaning}
-use Rattle.raft_store.specs.Types.{WorldStore}
+use Rattle.raft_node.specs.raft_store.declared.entry.Entry.{Entry}
+use Rattle.raft_node.specs.raft_store.Entries.{entry_meaning}
+use Rattle.raft_node.specs.raft_store.Types.{WorldStore}
 use Rattle.proof_mirror.specs.Ready.{InStep}
 use Rattle.proof_mirror.proofs.Shape.{Shape, shape_of}
 use Rattle.proof_mirror.proofs.Sound.{fits_within}

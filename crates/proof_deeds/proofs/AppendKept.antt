@@ -6,45 +6,45 @@ use Rattle.std.specs.Option.{option_map}
 use Rattle.std.specs.Ordering.{is_eq, nat_cmp}
 use Rattle.std.proofs.lemmas.Bool.{cond_both, eqb-true}
 use Rattle.std.proofs.lemmas.Cmp.{nat_cmp_total}
-use Rattle.raft_state.specs.declared.ids.LeaderId.{LeaderId}
-use Rattle.raft_state.specs.declared.ids.LogId.{LogId}
-use Rattle.raft_state.specs.declared.ids.Vote.{Vote}
-use Rattle.raft_state.specs.declared.membership.Members.{Members}
-use Rattle.raft_state.specs.Log.{last}
-use Rattle.raft_state.specs.Order.{next}
-use Rattle.raft_state.specs.Same.{nat_same}
-use Rattle.raft_state.specs.State.{has_log_id}
-use Rattle.raft_command.specs.declared.config.EngineConfig.{EngineConfig}
-use Rattle.raft_steps.specs.FollowingHandler.{memberships_in, with_entries, do_append_entries, is_held, new_entries, holds_previous, truncate_logs, truncate_for, ensure_log_consecutive}
-use Rattle.raft_steps.specs.FollowingHandler as following
-use Rattle.raft_steps.specs.Laws.{later}
-use Rattle.raft_steps.specs.Parts.{with_state, on_core}
-use Rattle.raft_steps.specs.RequestRefusals.{refusals_of_append}
-use Rattle.raft_steps.specs.Requests.{follow, append_entries, append_answer, handle_append_entries}
-use Rattle.raft_steps.specs.ServerStateHandler.{update_role}
-use Rattle.raft_steps.specs.VoteHandler.{rejects_vote, update_vote}
-use Rattle.raft_steps.proofs.KeptAppend.{past_committed, truncate_case, new_missing, IsMissing}
-use Rattle.raft_steps.proofs.Marks.{SameMarks, append_marks, consecutive_marks}
+use Rattle.raft_node.specs.raft_state.declared.ids.LeaderId.{LeaderId}
+use Rattle.raft_node.specs.raft_state.declared.ids.LogId.{LogId}
+use Rattle.raft_node.specs.raft_state.declared.ids.Vote.{Vote}
+use Rattle.raft_node.specs.raft_state.declared.membership.Members.{Members}
+use Rattle.raft_node.specs.raft_state.Log.{last}
+use Rattle.raft_node.specs.raft_state.Order.{next}
+use Rattle.raft_node.specs.raft_state.Same.{nat_same}
+use Rattle.raft_node.specs.raft_state.State.{has_log_id}
+use Rattle.raft_node.specs.raft_command.declared.config.EngineConfig.{EngineConfig}
+use Rattle.raft_node.specs.raft_steps.FollowingHandler.{memberships_in, with_entries, do_append_entries, is_held, new_entries, holds_previous, truncate_logs, truncate_for, ensure_log_consecutive}
+use Rattle.raft_node.specs.raft_steps.FollowingHandler as following
+use Rattle.raft_node.specs.raft_steps.Laws.{later}
+use Rattle.raft_node.specs.raft_steps.Parts.{with_state, on_core}
+use Rattle.raft_node.specs.raft_steps.RequestRefusals.{refusals_of_append}
+use Rattle.raft_node.specs.raft_steps.Requests.{follow, append_entries, append_answer, handle_append_entries}
+use Rattle.raft_node.specs.raft_steps.ServerStateHandler.{update_role}
+use Rattle.raft_node.specs.raft_steps.VoteHandler.{rejects_vote, update_vote}
+use Rattle.raft_node.proofs.raft_steps_proofs.KeptAppend.{past_committed, truncate_case, new_missing, IsMissing}
+use Rattle.raft_node.proofs.raft_steps_proofs.Marks.{SameMarks, append_marks, consecutive_marks}
 use Rattle.proof_agreement.specs.Machine.{Setup, last_membership, start}
 use Rattle.proof_agreement.specs.Stores.{whole, entry_at}
 use Rattle.proof_agreement.specs.Deeds.{MayAccept, Names}
 use Rattle.proof_agreement.proofs.Memberships.{last-is}
-use Rattle.raft_store.specs.declared.entry.Entry.{Entry}
-use Rattle.raft_store.specs.Entries.{entry_meaning}
-use Rattle.raft_store.specs.Mirror.{ends, last_two}
-use Rattle.raft_store.specs.Store as store
-use Rattle.raft_store.specs.Types.{WorldStore, WorldMachine}
-use Rattle.raft_store.proofs.Lists.{Run}
+use Rattle.raft_node.specs.raft_store.declared.entry.Entry.{Entry}
+use Rattle.raft_node.specs.raft_store.Entries.{entry_meaning}
+use Rattle.raft_node.specs.raft_store.Mirror.{ends, last_two}
+use Rattle.raft_node.specs.raft_store.Store as store
+use Rattle.raft_node.specs.raft_store.Types.{WorldStore, WorldMachine}
+use Rattle.raft_node.proofs.raft_store_proofs.Lists.{Run}
 use Rattle.proof_mirror.specs.Ready.{InStep, Pending, LeavesBefore, AppendFits}
 use Rattle.proof_mirror.proofs.Following.{CutTo, pending_truncate, pending_append_entries, previous_reaches, held_reaches}
 use Rattle.proof_mirror.proofs.Puts.{with_is}
 use Rattle.proof_mirror.proofs.Queued.{awaits_state, step_alike}
 use Rattle.proof_mirror.proofs.Shape.{Shape, shape_of, whole_end, whole_run}
-use Rattle.raft_calls.specs.declared.message.Body.TheVariants as body
-use Rattle.raft_calls.specs.declared.message.Message.{Message}
-use Rattle.raft_calls.specs.declared.message.Origin.{Origin}
+use Rattle.raft_node.specs.raft_calls.declared.message.Body.TheVariants as body
+use Rattle.raft_node.specs.raft_calls.declared.message.Message.{Message}
+use Rattle.raft_node.specs.raft_calls.declared.message.Origin.{Origin}
 use Rattle.raft_node.specs.declared.node.Turn.{Turn}
-use Rattle.raft_calls.specs.Deliveries.{reply_token}
+use Rattle.raft_node.specs.raft_calls.Deliveries.{reply_token}
 use Rattle.proof_deeds.specs.Chains.{Unread, left_by, Carried}
 use Rattle.proof_deeds.specs.Follows.{AppendSent}
 use Rattle.proof_deeds.specs.Images.{Ideal, IdealEntry, number, setup_of}

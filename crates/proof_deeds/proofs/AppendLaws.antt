@@ -5,49 +5,49 @@ use Rattle.std.specs.List.{AllByRecursion}
 use Rattle.std.specs.Option.{option_map, option_or}
 use Rattle.std.specs.Ordering.{is_eq, nat_cmp}
 use Rattle.std.proofs.lemmas.Cmp.{nat_cmp_total}
-use Rattle.raft_state.specs.declared.ids.LeaderId.{LeaderId}
-use Rattle.raft_state.specs.declared.ids.LogId.{LogId}
-use Rattle.raft_state.specs.declared.ids.Vote.{Vote}
-use Rattle.raft_state.specs.declared.membership.Members.{Members}
-use Rattle.raft_state.specs.declared.policy.RejectAppendEntries.{RejectAppendEntries}
-use Rattle.raft_state.specs.declared.policy.RejectAppendEntries.TheVariants as reject
-use Rattle.raft_state.specs.Invariants.{IsSoundState}
-use Rattle.raft_state.specs.Log.{at}
-use Rattle.raft_state.specs.Order.{next}
-use Rattle.raft_state.specs.Same.{nat_same}
-use Rattle.raft_state.specs.State.{has_log_id}
-use Rattle.raft_command.specs.Message.{is_success, append_response}
-use Rattle.raft_command.specs.declared.command.Command.TheVariants as command
-use Rattle.raft_command.specs.declared.config.EngineConfig.{EngineConfig}
-use Rattle.raft_command.specs.declared.message.AppendEntriesResponse.{AppendEntriesResponse}
-use Rattle.raft_command.specs.declared.message.AppendEntriesResponse.TheVariants as response
-use Rattle.raft_command.specs.declared.respond.Respond.TheVariants as respond
-use Rattle.raft_steps.specs.FollowingHandler.{holds_previous, consecutive_answer}
-use Rattle.raft_steps.specs.Parts.{on_core}
-use Rattle.raft_steps.specs.RequestRefusals.{refusals_of_append, refusals_of_follow}
-use Rattle.raft_steps.specs.Requests.{replied, follow, append_entries, append_answer, handle_append_entries}
-use Rattle.raft_steps.specs.VoteHandler.{rejects_vote, update_vote}
-use Rattle.raft_steps.proofs.KeptFollow.{heard_case, not_own}
-use Rattle.raft_steps.proofs.Marks.{SameMarks, follow_marks}
+use Rattle.raft_node.specs.raft_state.declared.ids.LeaderId.{LeaderId}
+use Rattle.raft_node.specs.raft_state.declared.ids.LogId.{LogId}
+use Rattle.raft_node.specs.raft_state.declared.ids.Vote.{Vote}
+use Rattle.raft_node.specs.raft_state.declared.membership.Members.{Members}
+use Rattle.raft_node.specs.raft_state.declared.policy.RejectAppendEntries.{RejectAppendEntries}
+use Rattle.raft_node.specs.raft_state.declared.policy.RejectAppendEntries.TheVariants as reject
+use Rattle.raft_node.specs.raft_state.Invariants.{IsSoundState}
+use Rattle.raft_node.specs.raft_state.Log.{at}
+use Rattle.raft_node.specs.raft_state.Order.{next}
+use Rattle.raft_node.specs.raft_state.Same.{nat_same}
+use Rattle.raft_node.specs.raft_state.State.{has_log_id}
+use Rattle.raft_node.specs.raft_command.Message.{is_success, append_response}
+use Rattle.raft_node.specs.raft_command.declared.command.Command.TheVariants as command
+use Rattle.raft_node.specs.raft_command.declared.config.EngineConfig.{EngineConfig}
+use Rattle.raft_node.specs.raft_command.declared.message.AppendEntriesResponse.{AppendEntriesResponse}
+use Rattle.raft_node.specs.raft_command.declared.message.AppendEntriesResponse.TheVariants as response
+use Rattle.raft_node.specs.raft_command.declared.respond.Respond.TheVariants as respond
+use Rattle.raft_node.specs.raft_steps.FollowingHandler.{holds_previous, consecutive_answer}
+use Rattle.raft_node.specs.raft_steps.Parts.{on_core}
+use Rattle.raft_node.specs.raft_steps.RequestRefusals.{refusals_of_append, refusals_of_follow}
+use Rattle.raft_node.specs.raft_steps.Requests.{replied, follow, append_entries, append_answer, handle_append_entries}
+use Rattle.raft_node.specs.raft_steps.VoteHandler.{rejects_vote, update_vote}
+use Rattle.raft_node.proofs.raft_steps_proofs.KeptFollow.{heard_case, not_own}
+use Rattle.raft_node.proofs.raft_steps_proofs.Marks.{SameMarks, follow_marks}
 use Rattle.proof_agreement.specs.Machine.{Setup}
 use Rattle.proof_agreement.specs.Stores.{Append}
 use Rattle.proof_agreement.specs.Deeds.{AcceptAppend, Names, MayAccept, does}
-use Rattle.raft_store.specs.declared.entry.Entry.{Entry}
-use Rattle.raft_store.specs.Entries.{entry_meaning}
-use Rattle.raft_store.specs.Types.{WorldStore, WorldCommand, WorldMachine}
-use Rattle.raft_store.proofs.Lists.{Run}
+use Rattle.raft_node.specs.raft_store.declared.entry.Entry.{Entry}
+use Rattle.raft_node.specs.raft_store.Entries.{entry_meaning}
+use Rattle.raft_node.specs.raft_store.Types.{WorldStore, WorldCommand, WorldMachine}
+use Rattle.raft_node.proofs.raft_store_proofs.Lists.{Run}
 use Rattle.proof_mirror.specs.Ready.{PendingIn, AppendFits}
 use Rattle.proof_mirror.proofs.Elections.{pending_update_vote}
 use Rattle.proof_mirror.proofs.Following.{follow_passed, more_passed, voted_sound, pending_append_entries}
 use Rattle.proof_mirror.proofs.Orders.{in_order}
 use Rattle.proof_mirror.proofs.Proposes.{TakesId}
 use Rattle.proof_mirror.proofs.Shape.{run_of_ids}
-use Rattle.raft_calls.specs.declared.message.Body.TheVariants as body
-use Rattle.raft_calls.specs.declared.message.Message.{Message}
-use Rattle.raft_calls.specs.declared.message.Origin.{Origin}
+use Rattle.raft_node.specs.raft_calls.declared.message.Body.TheVariants as body
+use Rattle.raft_node.specs.raft_calls.declared.message.Message.{Message}
+use Rattle.raft_node.specs.raft_calls.declared.message.Origin.{Origin}
 use Rattle.raft_node.specs.declared.node.Turn.{Turn}
-use Rattle.raft_calls.specs.Deliveries.{reply_token}
-use Rattle.raft_calls.specs.Feeds.{last_sent}
+use Rattle.raft_node.specs.raft_calls.Deliveries.{reply_token}
+use Rattle.raft_node.specs.raft_calls.Feeds.{last_sent}
 use Rattle.proof_deeds.specs.Chains.{Unread, left_by, Done, Carried}
 use Rattle.proof_deeds.specs.Follows.{StoreIs, BodyIs, AppendIs, AppendSent, VoteTold}
 use Rattle.proof_deeds.specs.Images.{EntriesFit, Ideal, IdNamed, IsNamed, number, setup_of}

@@ -3,17 +3,17 @@ use Rattle.std.proofs.Common.{ℕ, zero, suc, ◌+◌, ◌<◌, ◌≤◌, ◌�
 use Rattle.std.specs.Prelude.{IfSome, is_some, slice_get}
 use Rattle.std.specs.List.{cons_option}
 use Rattle.std.specs.Option.{option_map}
-use Rattle.raft_state.specs.declared.ids.LogId.{LogId}
-use Rattle.raft_state.specs.declared.membership.Members.{Members}
-use Rattle.raft_state.specs.declared.membership.StoredMembership.{StoredMembership}
-use Rattle.raft_state.specs.Order.{next}
-use Rattle.raft_steps.specs.FollowingHandler.{memberships_in}
+use Rattle.raft_node.specs.raft_state.declared.ids.LogId.{LogId}
+use Rattle.raft_node.specs.raft_state.declared.membership.Members.{Members}
+use Rattle.raft_node.specs.raft_state.declared.membership.StoredMembership.{StoredMembership}
+use Rattle.raft_node.specs.raft_state.Order.{next}
+use Rattle.raft_node.specs.raft_steps.FollowingHandler.{memberships_in}
 use Rattle.proof_agreement.specs.Machine.{last_membership}
 use Rattle.proof_agreement.specs.Stores.{entry_at, first_entry}
-use Rattle.raft_store.specs.declared.entry.Entry.{Entry}
-use Rattle.raft_store.specs.Entries.{entry_meaning, members_of}
-use Rattle.raft_store.specs.Mirror.{none, ends, last_two}
-use Rattle.raft_store.proofs.Lists.{Run}
+use Rattle.raft_node.specs.raft_store.declared.entry.Entry.{Entry}
+use Rattle.raft_node.specs.raft_store.Entries.{entry_meaning, members_of}
+use Rattle.raft_node.specs.raft_store.Mirror.{none, ends, last_two}
+use Rattle.raft_node.proofs.raft_store_proofs.Lists.{Run}
 use Rattle.proof_deeds.specs.Images.{IdealEntry, image, images, setup_of}
 use Rattle.proof_deeds.proofs.AppendFitting.{StandsIn}
 use Rattle.proof_deeds.proofs.AppendTails.{log_ids}

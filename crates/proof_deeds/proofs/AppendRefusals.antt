@@ -9,29 +9,29 @@ use Rattle.std.proofs.lemmas.Bool.{cases_lt, eq-eqb, le-ltb, ltb-true, ltb-false
 use Rattle.std.proofs.lemmas.Bool.Decides.{nat_tests}
 use Rattle.std.proofs.lemmas.Cmp.{nat_cmp_total}
 use Rattle.std.proofs.lemmas.List.{length-map}
-use Rattle.raft_state.specs.declared.ids.LogId.{LogId}
-use Rattle.raft_state.specs.declared.ids.Vote.{Vote}
-use Rattle.raft_state.specs.Order.{next, last_id_cmp}
-use Rattle.raft_state.specs.Fits.{fits, is_within}
-use Rattle.raft_state.specs.Invariants.{IsSoundState}
-use Rattle.raft_state.specs.Log.{last, at}
-use Rattle.raft_state.specs.LogLaws.{at-run}
-use Rattle.raft_state.specs.Same.{nat_same}
-use Rattle.raft_state.proofs.LogLists.{fits_has}
-use Rattle.raft_state.proofs.Orders.{both_and, within_trans}
-use Rattle.raft_state.proofs.StateLaws.{committed_has}
-use Rattle.raft_state.specs.State.{accepted, commits, has_log_id}
-use Rattle.raft_steps.specs.RequestRefusals.{is_above_vote, contradicts_accepted}
-use Rattle.raft_steps.proofs.KeptAppend.{past_committed}
+use Rattle.raft_node.specs.raft_state.declared.ids.LogId.{LogId}
+use Rattle.raft_node.specs.raft_state.declared.ids.Vote.{Vote}
+use Rattle.raft_node.specs.raft_state.Order.{next, last_id_cmp}
+use Rattle.raft_node.specs.raft_state.Fits.{fits, is_within}
+use Rattle.raft_node.specs.raft_state.Invariants.{IsSoundState}
+use Rattle.raft_node.specs.raft_state.Log.{last, at}
+use Rattle.raft_node.specs.raft_state.LogLaws.{at-run}
+use Rattle.raft_node.specs.raft_state.Same.{nat_same}
+use Rattle.raft_node.proofs.raft_state_proofs.LogLists.{fits_has}
+use Rattle.raft_node.proofs.raft_state_proofs.Orders.{both_and, within_trans}
+use Rattle.raft_node.proofs.raft_state_proofs.StateLaws.{committed_has}
+use Rattle.raft_node.specs.raft_state.State.{accepted, commits, has_log_id}
+use Rattle.raft_node.specs.raft_steps.RequestRefusals.{is_above_vote, contradicts_accepted}
+use Rattle.raft_node.proofs.raft_steps_proofs.KeptAppend.{past_committed}
 use Rattle.proof_agreement.specs.Machine.{Setup, Includes, start}
 use Rattle.proof_agreement.specs.Stores.{Append, AppendRequest, whole, entry_at}
 use Rattle.proof_agreement.specs.Deeds.{FromLeader, Names, MayAccept}
 use Rattle.proof_agreement.proofs.StoresBridge.{ids_rise, request_low, request_rises, request_in_committed, request_past_committed, accepted_held}
-use Rattle.raft_store.specs.declared.entry.Entry.{Entry}
-use Rattle.raft_store.specs.Entries.{entry_meaning}
-use Rattle.raft_store.specs.Types.{WorldStore}
+use Rattle.raft_node.specs.raft_store.declared.entry.Entry.{Entry}
+use Rattle.raft_node.specs.raft_store.Entries.{entry_meaning}
+use Rattle.raft_node.specs.raft_store.Types.{WorldStore}
 use Rattle.proof_mirror.specs.Ready.{InStep}
-use Rattle.raft_calls.specs.declared.message.Origin.{Origin}
+use Rattle.raft_node.specs.raft_calls.declared.message.Origin.{Origin}
 use Rattle.proof_deeds.specs.Chains.{Reached}
 use Rattle.proof_deeds.specs.Follows.{StoreIs, AppendIs}
 use Rattle.proof_deeds.specs.Images.{Ideal, IsNamed, IdNamed, EntriesFit, number, image}
@@ -39,10 +39,10 @@ use Rattle.proof_deeds.specs.Knows.{KnowsAccepted}
 use Rattle.proof_deeds.proofs.AppendTails.{log_ids, slot_inside, names_prev, names_slot, lacks_is, at_whole, named_at}
 use Rattle.proof_deeds.proofs.AppendFitting.{Placed}
 use Rattle.proof_deeds.proofs.AppendCommits.{id_below}
-use Rattle.raft_store.proofs.Lists.{Run}
-use Rattle.raft_state.specs.Consecutive.{follows_on}
+use Rattle.raft_node.proofs.raft_store_proofs.Lists.{Run}
+use Rattle.raft_node.specs.raft_state.Consecutive.{follows_on}
 use Rattle.proof_mirror.proofs.Shape.{Shape, shape_of, shaped_of}
-use Rattle.raft_store.specs.Store as store
+use Rattle.raft_node.specs.raft_store.Store as store
 use Rattle.proof_deeds.proofs.Appends.{follows_on_from}
 use Rattle.proof_deeds.proofs.Numbers.{Order, below, same, above, ordered}
 use Rattle.proof_deeds.proofs.Roles.{WorldState}

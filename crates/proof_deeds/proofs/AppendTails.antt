@@ -6,31 +6,31 @@ use Rattle.std.specs.Ordering.{nat_cmp}
 use Rattle.std.proofs.lemmas.Bool.{cases_lt, or_cases, or_parts, ltb-true, ltb-false, both_ways}
 use Rattle.std.proofs.lemmas.Cmp.{nat_cmp_total}
 use Rattle.std.proofs.lemmas.List.{length-map, get_or-drop, length-take-le, length-drop}
-use Rattle.raft_state.specs.declared.ids.LeaderId.{LeaderId}
-use Rattle.raft_state.specs.declared.ids.LogId.{LogId}
-use Rattle.raft_state.specs.Invariants.{first_index}
-use Rattle.raft_state.specs.Log.{last, at}
-use Rattle.raft_state.specs.LogLaws.{at-run}
-use Rattle.raft_state.specs.Order.{next}
-use Rattle.raft_state.specs.Same.{found_is, nat_same}
-use Rattle.raft_state.specs.State.{has_log_id, is_found}
-use Rattle.raft_state.proofs.StateLaws.{is_found_at}
+use Rattle.raft_node.specs.raft_state.declared.ids.LeaderId.{LeaderId}
+use Rattle.raft_node.specs.raft_state.declared.ids.LogId.{LogId}
+use Rattle.raft_node.specs.raft_state.Invariants.{first_index}
+use Rattle.raft_node.specs.raft_state.Log.{last, at}
+use Rattle.raft_node.specs.raft_state.LogLaws.{at-run}
+use Rattle.raft_node.specs.raft_state.Order.{next}
+use Rattle.raft_node.specs.raft_state.Same.{found_is, nat_same}
+use Rattle.raft_node.specs.raft_state.State.{has_log_id, is_found}
+use Rattle.raft_node.proofs.raft_state_proofs.StateLaws.{is_found_at}
 use Rattle.proof_agreement.specs.Machine.{Setup}
 use Rattle.proof_agreement.specs.Stores.{Append, whole, entry_at}
 use Rattle.proof_agreement.specs.Deeds.{Holds, Names, Reaches, below}
 use Rattle.proof_agreement.proofs.WholeLogs.{get_left, get_right, whole_append, whole_below}
-use Rattle.raft_store.specs.declared.entry.Entry.{Entry}
-use Rattle.raft_store.specs.Entries.{entry_meaning}
-use Rattle.raft_store.specs.Store as store
-use Rattle.raft_store.specs.Types.{WorldStore}
-use Rattle.raft_store.proofs.Lists.{Run, under, under_none, values_with}
+use Rattle.raft_node.specs.raft_store.declared.entry.Entry.{Entry}
+use Rattle.raft_node.specs.raft_store.Entries.{entry_meaning}
+use Rattle.raft_node.specs.raft_store.Store as store
+use Rattle.raft_node.specs.raft_store.Types.{WorldStore}
+use Rattle.raft_node.proofs.raft_store_proofs.Lists.{Run, under, under_none, values_with}
 use Rattle.proof_mirror.specs.Ready.{InStep}
 use Rattle.proof_mirror.proofs.Commits.{whole_at}
 use Rattle.proof_mirror.proofs.Cuts.{cut_values}
 use Rattle.proof_mirror.proofs.Places.{at_index, at_reaches, first_below, found_below}
 use Rattle.proof_mirror.proofs.Puts.{put_stored}
 use Rattle.proof_mirror.proofs.Shape.{Shape, shape_of, ids_of_run, whole_run, shaped_of}
-use Rattle.raft_calls.specs.declared.message.Origin.{Origin}
+use Rattle.raft_node.specs.raft_calls.declared.message.Origin.{Origin}
 use Rattle.proof_deeds.specs.Follows.{StoreIs, AppendIs}
 use Rattle.proof_deeds.specs.Images.{IdealStore, IdealEntry, IsNamed, number, last_number, image}
 use Rattle.proof_deeds.proofs.Numbers.{number_same}

@@ -5,32 +5,32 @@ use Rattle.std.specs.List.{AllByRecursion, list_any}
 use Rattle.std.specs.Option.{option_to_list}
 use Rattle.std.specs.Ordering.{is_eq, nat_cmp}
 use Rattle.std.proofs.lemmas.Bool.{le-ltb}
-use Rattle.raft_state.specs.declared.ids.LeaderId.{LeaderId}
-use Rattle.raft_state.specs.declared.ids.LogId.{LogId}
-use Rattle.raft_state.specs.declared.ids.Vote.{Vote}
-use Rattle.raft_state.specs.declared.membership.Members.{Members}
-use Rattle.raft_state.specs.Consecutive.{follows_on}
-use Rattle.raft_state.specs.Order.{next}
-use Rattle.raft_state.specs.State.{accepted_under, commits, has_log_id}
-use Rattle.raft_error.specs.declared.error.EngineError.{EngineError}
-use Rattle.raft_error.specs.declared.error.EngineError.TheVariants.{IndexEnd, CounterEnd, VoteNotCommitted, OwnVote, NotFollowing, ContradictsHeld, CommittedNotHeld, Spent}
-use Rattle.raft_command.specs.declared.config.EngineConfig.{EngineConfig}
-use Rattle.raft_steps.specs.Refusals.{is_at_end, refusals_of_counter, is_counter_end, is_spent}
-use Rattle.raft_steps.specs.FollowingHandler.{commit_target}
-use Rattle.raft_steps.specs.RequestRefusals.{is_above_vote, is_above_committed, contradicts_committed, contradicts_accepted, is_missing, refusals_of_follow, refusals_of_held, refusals_of_append, refusals_of_commit}
-use Rattle.raft_steps.specs.VoteHandler.{rejects_vote}
+use Rattle.raft_node.specs.raft_state.declared.ids.LeaderId.{LeaderId}
+use Rattle.raft_node.specs.raft_state.declared.ids.LogId.{LogId}
+use Rattle.raft_node.specs.raft_state.declared.ids.Vote.{Vote}
+use Rattle.raft_node.specs.raft_state.declared.membership.Members.{Members}
+use Rattle.raft_node.specs.raft_state.Consecutive.{follows_on}
+use Rattle.raft_node.specs.raft_state.Order.{next}
+use Rattle.raft_node.specs.raft_state.State.{accepted_under, commits, has_log_id}
+use Rattle.raft_node.specs.raft_error.declared.error.EngineError.{EngineError}
+use Rattle.raft_node.specs.raft_error.declared.error.EngineError.TheVariants.{IndexEnd, CounterEnd, VoteNotCommitted, OwnVote, NotFollowing, ContradictsHeld, CommittedNotHeld, Spent}
+use Rattle.raft_node.specs.raft_command.declared.config.EngineConfig.{EngineConfig}
+use Rattle.raft_node.specs.raft_steps.Refusals.{is_at_end, refusals_of_counter, is_counter_end, is_spent}
+use Rattle.raft_node.specs.raft_steps.FollowingHandler.{commit_target}
+use Rattle.raft_node.specs.raft_steps.RequestRefusals.{is_above_vote, is_above_committed, contradicts_committed, contradicts_accepted, is_missing, refusals_of_follow, refusals_of_held, refusals_of_append, refusals_of_commit}
+use Rattle.raft_node.specs.raft_steps.VoteHandler.{rejects_vote}
 use Rattle.proof_agreement.specs.Machine.{Includes}
 use Rattle.proof_agreement.specs.Stores.{AppendRequest}
 use Rattle.proof_agreement.specs.Deeds.{Names}
-use Rattle.raft_store.specs.declared.entry.Entry.{Entry}
-use Rattle.raft_store.specs.Entries.{entry_meaning}
-use Rattle.raft_store.specs.Types.{WorldStore, WorldMachine}
-use Rattle.raft_store.proofs.Lists.{Run}
+use Rattle.raft_node.specs.raft_store.declared.entry.Entry.{Entry}
+use Rattle.raft_node.specs.raft_store.Entries.{entry_meaning}
+use Rattle.raft_node.specs.raft_store.Types.{WorldStore, WorldMachine}
+use Rattle.raft_node.proofs.raft_store_proofs.Lists.{Run}
 use Rattle.proof_mirror.specs.Ready.{InStep}
 use Rattle.proof_mirror.proofs.Shape.{run_of_ids}
-use Rattle.raft_calls.specs.declared.message.Body.TheVariants as body
-use Rattle.raft_calls.specs.declared.message.Message.{Message}
-use Rattle.raft_calls.specs.declared.message.Origin.{Origin}
+use Rattle.raft_node.specs.raft_calls.declared.message.Body.TheVariants as body
+use Rattle.raft_node.specs.raft_calls.declared.message.Message.{Message}
+use Rattle.raft_node.specs.raft_calls.declared.message.Origin.{Origin}
 use Rattle.raft_node.specs.declared.node.Turn.{Turn}
 use Rattle.proof_deeds.specs.Chains.{Reached, left_by}
 use Rattle.proof_deeds.specs.Follows.{AppendSent}

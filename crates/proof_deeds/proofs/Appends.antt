@@ -4,29 +4,29 @@ use Rattle.std.specs.Prelude.{◌==◌, if◌then◌else◌}
 use Rattle.std.specs.Ordering.{is_eq, nat_cmp}
 use Rattle.std.proofs.lemmas.Bool.{cases_lt, eqb-true, cond_both}
 use Rattle.std.proofs.lemmas.List.{length-map, drop-map}
-use Rattle.raft_state.specs.declared.ids.LeaderId.{LeaderId}
-use Rattle.raft_state.specs.declared.ids.LogId.{LogId}
-use Rattle.raft_state.specs.declared.state.ServerState.{ServerState}
-use Rattle.raft_state.specs.Log.{last, at}
-use Rattle.raft_state.specs.Order.{next}
-use Rattle.raft_state.specs.State.{accepted, has_log_id, server_state, truncate, undoes_membership}
-use Rattle.raft_command.specs.Push.{with_command}
-use Rattle.raft_command.specs.declared.command.Command.TheVariants as command
-use Rattle.raft_command.specs.declared.config.EngineConfig.{EngineConfig}
-use Rattle.raft_steps.specs.FollowingHandler.{memberships_in, with_entries, do_append_entries, truncate_logs}
-use Rattle.raft_steps.specs.Parts.{then_command, with_state}
-use Rattle.raft_steps.specs.ServerStateHandler.{role_commands, update_role}
-use Rattle.raft_steps.proofs.KeptAppend.{past_committed}
+use Rattle.raft_node.specs.raft_state.declared.ids.LeaderId.{LeaderId}
+use Rattle.raft_node.specs.raft_state.declared.ids.LogId.{LogId}
+use Rattle.raft_node.specs.raft_state.declared.state.ServerState.{ServerState}
+use Rattle.raft_node.specs.raft_state.Log.{last, at}
+use Rattle.raft_node.specs.raft_state.Order.{next}
+use Rattle.raft_node.specs.raft_state.State.{accepted, has_log_id, server_state, truncate, undoes_membership}
+use Rattle.raft_node.specs.raft_command.Push.{with_command}
+use Rattle.raft_node.specs.raft_command.declared.command.Command.TheVariants as command
+use Rattle.raft_node.specs.raft_command.declared.config.EngineConfig.{EngineConfig}
+use Rattle.raft_node.specs.raft_steps.FollowingHandler.{memberships_in, with_entries, do_append_entries, truncate_logs}
+use Rattle.raft_node.specs.raft_steps.Parts.{then_command, with_state}
+use Rattle.raft_node.specs.raft_steps.ServerStateHandler.{role_commands, update_role}
+use Rattle.raft_node.proofs.raft_steps_proofs.KeptAppend.{past_committed}
 use Rattle.proof_agreement.specs.Machine.{Setup, Includes, start}
 use Rattle.proof_agreement.specs.Stores.{Append, AppendRequest, empty, whole, entry_at}
 use Rattle.proof_agreement.specs.Deeds.{TruncateConflict, FollowerAppend, FromLeader, IsFollower, Names, Holds, Reaches, MayAccept, MayTruncateConflict, MayAppendEntries, below, does}
 use Rattle.proof_agreement.proofs.StoresBridge.{conflict_past_accepted}
 use Rattle.proof_agreement.proofs.StoresFollow.{StoresFollow}
-use Rattle.raft_store.specs.declared.config.WorldConfig.{WorldConfig}
-use Rattle.raft_store.specs.declared.entry.Entry.{Entry}
-use Rattle.raft_store.specs.Entries.{entry_meaning}
-use Rattle.raft_store.specs.Types.{WorldStore, WorldCommand}
-use Rattle.raft_store.proofs.Lists.{Run}
+use Rattle.raft_node.specs.raft_store.declared.config.WorldConfig.{WorldConfig}
+use Rattle.raft_node.specs.raft_store.declared.entry.Entry.{Entry}
+use Rattle.raft_node.specs.raft_store.Entries.{entry_meaning}
+use Rattle.raft_node.specs.raft_store.Types.{WorldStore, WorldCommand}
+use Rattle.raft_node.proofs.raft_store_proofs.Lists.{Run}
 use Rattle.proof_mirror.specs.Ready.{InStep}
 use Rattle.proof_mirror.proofs.Cuts.{cut_parts}
 use Rattle.proof_mirror.proofs.Shape.{shape_of}

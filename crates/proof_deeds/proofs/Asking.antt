@@ -5,38 +5,38 @@ use Rattle.std.specs.List.{AllByRecursion}
 use Rattle.std.specs.Ordering.{is_gt, is_lt, nat_cmp}
 use Rattle.std.proofs.lemmas.Bool.{and_parts, both_ways, cond_both, cases_Bool}
 use Rattle.std.proofs.lemmas.Cmp.{nat_cmp_total}
-use Rattle.raft_state.specs.declared.ids.LogId.{LogId}
-use Rattle.raft_state.specs.declared.ids.Vote.{Vote}
-use Rattle.raft_state.specs.declared.membership.Members.{Members}
-use Rattle.raft_state.specs.Invariants.{IsSoundState}
-use Rattle.raft_state.specs.Log.{last}
-use Rattle.raft_state.specs.Members.{voter_ids}
-use Rattle.raft_state.specs.Order.{last_id_cmp, next, vote_cmp}
-use Rattle.raft_state.specs.Same.{nat_same}
-use Rattle.raft_state.specs.State.{is_leader, is_leading}
-use Rattle.raft_command.specs.declared.command.Command.TheVariants as command
-use Rattle.raft_command.specs.declared.config.EngineConfig.{EngineConfig}
-use Rattle.raft_command.specs.declared.message.VoteRequest.{VoteRequest}
-use Rattle.raft_proposer.specs.Candidate.{candidate_of}
-use Rattle.raft_steps.specs.Engine.{elect}
-use Rattle.raft_steps.specs.Parts.{then_command, with_state, on_core}
-use Rattle.raft_steps.specs.Requests.{is_leased, refuses_vote_req, handle_vote_req, vote_req_answer}
-use Rattle.raft_steps.specs.ServerStateHandler.{update_role}
-use Rattle.raft_steps.specs.VoteHandler.{rejects_vote, take_vote, become_following, become_leader, update_internal_server_state, update_vote}
-use Rattle.raft_steps.proofs.Kept.{vote_sound}
-use Rattle.raft_steps.proofs.KeptLead.{each_of}
+use Rattle.raft_node.specs.raft_state.declared.ids.LogId.{LogId}
+use Rattle.raft_node.specs.raft_state.declared.ids.Vote.{Vote}
+use Rattle.raft_node.specs.raft_state.declared.membership.Members.{Members}
+use Rattle.raft_node.specs.raft_state.Invariants.{IsSoundState}
+use Rattle.raft_node.specs.raft_state.Log.{last}
+use Rattle.raft_node.specs.raft_state.Members.{voter_ids}
+use Rattle.raft_node.specs.raft_state.Order.{last_id_cmp, next, vote_cmp}
+use Rattle.raft_node.specs.raft_state.Same.{nat_same}
+use Rattle.raft_node.specs.raft_state.State.{is_leader, is_leading}
+use Rattle.raft_node.specs.raft_command.declared.command.Command.TheVariants as command
+use Rattle.raft_node.specs.raft_command.declared.config.EngineConfig.{EngineConfig}
+use Rattle.raft_node.specs.raft_command.declared.message.VoteRequest.{VoteRequest}
+use Rattle.raft_node.specs.raft_proposer.Candidate.{candidate_of}
+use Rattle.raft_node.specs.raft_steps.Engine.{elect}
+use Rattle.raft_node.specs.raft_steps.Parts.{then_command, with_state, on_core}
+use Rattle.raft_node.specs.raft_steps.Requests.{is_leased, refuses_vote_req, handle_vote_req, vote_req_answer}
+use Rattle.raft_node.specs.raft_steps.ServerStateHandler.{update_role}
+use Rattle.raft_node.specs.raft_steps.VoteHandler.{rejects_vote, take_vote, become_following, become_leader, update_internal_server_state, update_vote}
+use Rattle.raft_node.proofs.raft_steps_proofs.Kept.{vote_sound}
+use Rattle.raft_node.proofs.raft_steps_proofs.KeptLead.{each_of}
 use Rattle.proof_agreement.specs.Machine.{Includes, AtOrBelow}
 use Rattle.proof_agreement.specs.Stores.{VoteRequest as AskVote, VoteGranted, whole}
 use Rattle.proof_agreement.specs.Deeds.{RequestVotes, AnswerVote, MayAnswerVote, does, IsCandidate}
-use Rattle.raft_store.specs.declared.entry.Entry.{Entry}
-use Rattle.raft_store.specs.Entries.{entry_meaning}
-use Rattle.raft_store.specs.Types.{WorldStore, WorldCommand, WorldMachine}
+use Rattle.raft_node.specs.raft_store.declared.entry.Entry.{Entry}
+use Rattle.raft_node.specs.raft_store.Entries.{entry_meaning}
+use Rattle.raft_node.specs.raft_store.Types.{WorldStore, WorldCommand, WorldMachine}
 use Rattle.proof_mirror.specs.Ready.{Pending}
 use Rattle.proof_mirror.proofs.Elections.{pending_vote, vote_ids, pending_follow}
-use Rattle.raft_calls.specs.declared.message.Body.TheVariants as body
-use Rattle.raft_calls.specs.declared.message.Message.{Message}
+use Rattle.raft_node.specs.raft_calls.declared.message.Body.TheVariants as body
+use Rattle.raft_node.specs.raft_calls.declared.message.Message.{Message}
 use Rattle.raft_node.specs.declared.node.Turn.{Turn}
-use Rattle.raft_calls.specs.Deliveries.{vote_reply}
+use Rattle.raft_node.specs.raft_calls.Deliveries.{vote_reply}
 use Rattle.proof_deeds.specs.Chains.{Reached, Unread, left_by, Carried}
 use Rattle.proof_deeds.specs.Follows.{VoteAsked, VoteTold}
 use Rattle.proof_deeds.specs.Images.{Ideal, IsNamed, IdNamed, number, last_number, setup_of}

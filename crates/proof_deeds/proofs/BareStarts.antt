@@ -2,28 +2,28 @@
 use Rattle.std.proofs.Common.{ℕ, ◌+◌, ◌<◌, ◌≤◌, ◌≡◌, inl, inr, Bool, true, false, List, [], arith, refl, sym, ◌∙◌, subst, Option, None, Some}
 use Rattle.std.specs.Prelude.{IfSome, if◌then◌else◌}
 use Rattle.std.specs.Ordering.{nat_cmp}
-use Rattle.raft_state.specs.declared.ids.LogId.{LogId}
-use Rattle.raft_state.specs.declared.ids.Vote.{Vote}
-use Rattle.raft_state.specs.Members.{is_voter}
-use Rattle.raft_state.specs.State.{is_leader}
-use Rattle.raft_error.specs.declared.error.EngineError.{EngineError}
-use Rattle.raft_steps.specs.Engine.{elect}
-use Rattle.raft_steps.specs.Refusals.{refusals_of_elect}
-use Rattle.raft_steps.specs.Starts.{refusals_of_startup, startup}
-use Rattle.raft_store.specs.declared.entry.Entry.{Entry}
-use Rattle.raft_store.specs.Entries.{entry_meaning}
-use Rattle.raft_store.specs.Restart.{is_outrun, settled_by, started}
-use Rattle.raft_store.specs.Types.{EngineView, WorldLeader, WorldStore}
-use Rattle.raft_schedule.specs.declared.event.Event.{Event}
-use Rattle.raft_schedule.specs.declared.event.Outcome.{Outcome}
-use Rattle.raft_schedule.specs.declared.event.Outcome.TheVariants.{Skipped}
-use Rattle.raft_schedule.specs.declared.event.SkipReason.{SkipReason}
-use Rattle.raft_schedule.specs.declared.event.Start.TheVariants.{Bare}
+use Rattle.raft_node.specs.raft_state.declared.ids.LogId.{LogId}
+use Rattle.raft_node.specs.raft_state.declared.ids.Vote.{Vote}
+use Rattle.raft_node.specs.raft_state.Members.{is_voter}
+use Rattle.raft_node.specs.raft_state.State.{is_leader}
+use Rattle.raft_node.specs.raft_error.declared.error.EngineError.{EngineError}
+use Rattle.raft_node.specs.raft_steps.Engine.{elect}
+use Rattle.raft_node.specs.raft_steps.Refusals.{refusals_of_elect}
+use Rattle.raft_node.specs.raft_steps.Starts.{refusals_of_startup, startup}
+use Rattle.raft_node.specs.raft_store.declared.entry.Entry.{Entry}
+use Rattle.raft_node.specs.raft_store.Entries.{entry_meaning}
+use Rattle.raft_node.specs.raft_store.Restart.{is_outrun, settled_by, started}
+use Rattle.raft_node.specs.raft_store.Types.{EngineView, WorldLeader, WorldStore}
+use Rattle.raft_node.specs.raft_schedule.declared.event.Event.{Event}
+use Rattle.raft_node.specs.raft_schedule.declared.event.Outcome.{Outcome}
+use Rattle.raft_node.specs.raft_schedule.declared.event.Outcome.TheVariants.{Skipped}
+use Rattle.raft_node.specs.raft_schedule.declared.event.SkipReason.{SkipReason}
+use Rattle.raft_node.specs.raft_schedule.declared.event.Start.TheVariants.{Bare}
 use Rattle.raft_node.specs.declared.act.Act.TheVariants.{Restart}
 use Rattle.raft_node.specs.declared.given.Given.{Given}
-use Rattle.raft_calls.specs.Deliveries.{answered, with_machine}
-use Rattle.raft_calls.specs.Elections.{elected}
-use Rattle.raft_calls.specs.Starts.{begun_anew, resumed}
+use Rattle.raft_node.specs.raft_calls.Deliveries.{answered, with_machine}
+use Rattle.raft_node.specs.raft_calls.Elections.{elected}
+use Rattle.raft_node.specs.raft_calls.Starts.{begun_anew, resumed}
 use Rattle.raft_node.specs.Events.{Scene, called_at, calls, finish, moment_of, played, skip_running, skip_stopped, turn_of, work_of}
 use Rattle.raft_node.specs.Net.{NodeView}
 use Rattle.raft_node.specs.Runs.{whole_logs}

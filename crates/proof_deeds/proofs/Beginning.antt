@@ -9,43 +9,43 @@ use Rattle.std.specs.Ordering.{is_ne, nat_cmp}
 use Rattle.std.proofs.lemmas.Bool.{and_parts, both_ways}
 use Rattle.std.proofs.lemmas.Bool.Decides.{nat_tests}
 use Rattle.std.proofs.lemmas.Cmp.{nat_cmp_total}
-use Rattle.raft_state.specs.declared.ids.LeaderId.{LeaderId}
-use Rattle.raft_state.specs.declared.ids.LogId.{LogId}
-use Rattle.raft_state.specs.declared.ids.Vote.{Vote}
-use Rattle.raft_state.specs.declared.membership.Members.{Members}
-use Rattle.raft_state.specs.declared.state.ServerState.{ServerState}
-use Rattle.raft_state.specs.declared.state.ServerState.TheVariants as role
-use Rattle.raft_state.specs.Invariants.{IsSoundState, IsUnder}
-use Rattle.raft_state.specs.Consecutive.{follows_on}
-use Rattle.raft_state.specs.Log.{last}
-use Rattle.raft_state.specs.Order.{next, vote_cmp}
-use Rattle.raft_state.specs.Same.{nat_same}
-use Rattle.raft_state.specs.State.{is_leading, server_state}
-use Rattle.raft_command.specs.declared.command.Command.TheVariants as command
-use Rattle.raft_state.specs.Sorted.{has_id}
-use Rattle.raft_command.specs.declared.config.EngineConfig.{EngineConfig}
-use Rattle.raft_steps.specs.Refusals.{refusals_of_initialize}
-use Rattle.raft_steps.specs.Engine.{default_log_id, initialize}
-use Rattle.raft_steps.specs.FollowingHandler.{do_append_entries, with_entries}
-use Rattle.raft_steps.specs.Parts.{with_state, on_core}
-use Rattle.raft_steps.specs.ServerStateHandler.{role_commands, update_role}
-use Rattle.raft_steps.proofs.Kept.{do_append_kept}
-use Rattle.raft_steps.proofs.Leads.{vote_same}
-use Rattle.raft_steps.proofs.Unrefused.{neither, or_fails, second_fails}
+use Rattle.raft_node.specs.raft_state.declared.ids.LeaderId.{LeaderId}
+use Rattle.raft_node.specs.raft_state.declared.ids.LogId.{LogId}
+use Rattle.raft_node.specs.raft_state.declared.ids.Vote.{Vote}
+use Rattle.raft_node.specs.raft_state.declared.membership.Members.{Members}
+use Rattle.raft_node.specs.raft_state.declared.state.ServerState.{ServerState}
+use Rattle.raft_node.specs.raft_state.declared.state.ServerState.TheVariants as role
+use Rattle.raft_node.specs.raft_state.Invariants.{IsSoundState, IsUnder}
+use Rattle.raft_node.specs.raft_state.Consecutive.{follows_on}
+use Rattle.raft_node.specs.raft_state.Log.{last}
+use Rattle.raft_node.specs.raft_state.Order.{next, vote_cmp}
+use Rattle.raft_node.specs.raft_state.Same.{nat_same}
+use Rattle.raft_node.specs.raft_state.State.{is_leading, server_state}
+use Rattle.raft_node.specs.raft_command.declared.command.Command.TheVariants as command
+use Rattle.raft_node.specs.raft_state.Sorted.{has_id}
+use Rattle.raft_node.specs.raft_command.declared.config.EngineConfig.{EngineConfig}
+use Rattle.raft_node.specs.raft_steps.Refusals.{refusals_of_initialize}
+use Rattle.raft_node.specs.raft_steps.Engine.{default_log_id, initialize}
+use Rattle.raft_node.specs.raft_steps.FollowingHandler.{do_append_entries, with_entries}
+use Rattle.raft_node.specs.raft_steps.Parts.{with_state, on_core}
+use Rattle.raft_node.specs.raft_steps.ServerStateHandler.{role_commands, update_role}
+use Rattle.raft_node.proofs.raft_steps_proofs.Kept.{do_append_kept}
+use Rattle.raft_node.proofs.raft_steps_proofs.Leads.{vote_same}
+use Rattle.raft_node.proofs.raft_steps_proofs.Unrefused.{neither, or_fails, second_fails}
 use Rattle.proof_agreement.specs.Stores as stores
 use Rattle.proof_agreement.specs.Deeds.{Initialize, put}
-use Rattle.raft_store.specs.declared.config.WorldConfig.{WorldConfig}
-use Rattle.raft_store.specs.declared.entry.Entry.{Entry}
-use Rattle.raft_store.specs.Entries.{entry_meaning}
-use Rattle.raft_store.specs.Store as store
-use Rattle.raft_store.specs.Types.{WorldStore, WorldCommand, WorldMachine}
+use Rattle.raft_node.specs.raft_store.declared.config.WorldConfig.{WorldConfig}
+use Rattle.raft_node.specs.raft_store.declared.entry.Entry.{Entry}
+use Rattle.raft_node.specs.raft_store.Entries.{entry_meaning}
+use Rattle.raft_node.specs.raft_store.Store as store
+use Rattle.raft_node.specs.raft_store.Types.{WorldStore, WorldCommand, WorldMachine}
 use Rattle.proof_mirror.specs.Ready.{InStep, Pending}
 use Rattle.proof_mirror.proofs.Following.{pending_append}
 use Rattle.proof_mirror.proofs.Queued.{idle_same, role_idle}
 use Rattle.proof_mirror.proofs.Shape.{Shape, shape_of}
 use Rattle.proof_mirror.proofs.Starting.{core_order}
 use Rattle.raft_node.specs.declared.node.Turn.{Turn}
-use Rattle.raft_calls.specs.Elections.{first_entry}
+use Rattle.raft_node.specs.raft_calls.Elections.{first_entry}
 use Rattle.proof_deeds.specs.Chains.{Unread, stored, left_by, Done}
 use Rattle.proof_deeds.specs.Follows.{StoreIs}
 use Rattle.proof_deeds.specs.Images.{Ideal, EntriesFit, images, number, setup_of}

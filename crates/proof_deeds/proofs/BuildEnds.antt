@@ -1,17 +1,17 @@
 -- A build that ends leaves a node at work.
 use Rattle.std.proofs.Common.{ℕ, ◌≡◌, List, refl, ap, ◌∙◌, Option, Some, None}
 use Rattle.std.specs.Ordering.{nat_cmp}
-use Rattle.raft_state.specs.declared.membership.Members.{Members}
-use Rattle.raft_steps.specs.SnapshotCalls.{finish_building_snapshot}
-use Rattle.raft_store.specs.declared.entry.Entry.{Entry}
-use Rattle.raft_store.specs.Built.{keep_snapshot, meta_of}
-use Rattle.raft_store.specs.Entries.{entry_meaning}
-use Rattle.raft_store.specs.Types.{EngineView}
-use Rattle.raft_calls.specs.declared.message.Message.{Message}
+use Rattle.raft_node.specs.raft_state.declared.membership.Members.{Members}
+use Rattle.raft_node.specs.raft_steps.SnapshotCalls.{finish_building_snapshot}
+use Rattle.raft_node.specs.raft_store.declared.entry.Entry.{Entry}
+use Rattle.raft_node.specs.raft_store.Built.{keep_snapshot, meta_of}
+use Rattle.raft_node.specs.raft_store.Entries.{entry_meaning}
+use Rattle.raft_node.specs.raft_store.Types.{EngineView}
+use Rattle.raft_node.specs.raft_calls.declared.message.Message.{Message}
 use Rattle.raft_node.specs.declared.node.Turn.{Turn}
-use Rattle.raft_calls.specs.Deliveries.{with_machine}
+use Rattle.raft_node.specs.raft_calls.Deliveries.{with_machine}
 use Rattle.raft_node.specs.Events.{work_of}
-use Rattle.raft_calls.specs.Held.{IsReady}
+use Rattle.raft_node.specs.raft_calls.Held.{IsReady}
 use Rattle.raft_node.specs.Net.{NodeView, Records}
 use Rattle.proof_deeds.specs.Chains.{Reached}
 use Rattle.proof_deeds.specs.Images.{Ideal, images, setup_of}

@@ -4,52 +4,52 @@ use Rattle.std.specs.List.{AllByRecursion}
 use Rattle.std.specs.Ordering.{is_eq, is_gt, nat_cmp}
 use Rattle.std.specs.Result.{is_ok}
 use Rattle.std.proofs.Common.{sym, subst}
-use Rattle.raft_state.specs.declared.ids.LogId.{LogId}
-use Rattle.raft_state.specs.declared.ids.Vote.{Vote}
-use Rattle.raft_state.specs.declared.membership.Members.{Members}
-use Rattle.raft_state.specs.Order.{vote_cmp}
-use Rattle.raft_error.specs.declared.error.EngineError.{EngineError}
-use Rattle.raft_error.specs.Number.{number_of}
-use Rattle.raft_command.specs.declared.command.Command.TheVariants as command
-use Rattle.raft_command.specs.declared.config.EngineConfig.{EngineConfig}
-use Rattle.raft_command.specs.declared.message.AppendEntriesResponse.{AppendEntriesResponse}
-use Rattle.raft_command.specs.declared.message.AppendEntriesResponse.TheVariants.{Success, PartialSuccess, Conflict, HigherVote}
-use Rattle.raft_command.specs.declared.replication.ReplicationResult.{ReplicationResult}
-use Rattle.raft_command.specs.declared.replication.RequestId.{RequestId}
-use Rattle.raft_steps.specs.Engine.{as_uncommitted, elect, handle_vote_resp, initialize}
-use Rattle.raft_steps.specs.InstallRefusals.{refusals_of_install}
-use Rattle.raft_steps.specs.Installs.{handle_install_full_snapshot}
-use Rattle.raft_steps.specs.Invariants.{IsSound}
-use Rattle.raft_steps.specs.LeaderHandler.{leader_append_entries}
-use Rattle.raft_steps.specs.Parts.{led_of, leading, on_core}
-use Rattle.raft_steps.specs.Refusals.{refusals_of_counter_led, refusals_of_elect, refusals_of_initialize, refusals_of_local_progress, refusals_of_propose, refusals_of_spent, refusals_of_trigger_snapshot, refusals_of_update_vote, refusals_of_vote_resp}
-use Rattle.raft_steps.specs.Replies.{update_progress}
-use Rattle.raft_steps.specs.ReplicationHandler.{initiate_replication, update_local_progress}
-use Rattle.raft_steps.specs.ReplyRefusals.{refusals_of_progress}
-use Rattle.raft_steps.specs.RequestRefusals.{refusals_of_append, refusals_of_commit, refusals_of_vote_req}
-use Rattle.raft_steps.specs.Requests.{append_answer, handle_commit_entries, handle_vote_req, vote_req_answer}
-use Rattle.raft_steps.specs.SnapshotCalls.{trigger_purge_log}
-use Rattle.raft_steps.specs.SnapshotHandler.{trigger_snapshot}
-use Rattle.raft_steps.specs.Starts.{leader_step_down, refusals_of_startup, refusals_of_step_down, startup}
-use Rattle.raft_steps.specs.VoteHandler.{update_vote}
-use Rattle.raft_store.specs.declared.entry.Entry.{Entry}
-use Rattle.raft_store.specs.Entries.{entry_meaning}
-use Rattle.raft_store.specs.Types.{EngineView, WorldCandidate, WorldCommand, WorldLeader, WorldMachine}
-use Rattle.raft_calls.specs.declared.feed.Feed.{Feed}
-use Rattle.raft_calls.specs.declared.feed.Feed.TheVariants.{Saved, Stored, Nothing}
-use Rattle.raft_calls.specs.declared.message.Body.{Body}
-use Rattle.raft_calls.specs.declared.message.Body.TheVariants as body
-use Rattle.raft_calls.specs.declared.message.Origin.{Origin}
-use Rattle.raft_calls.specs.Deliveries.{answered, appended, deliver, led_call, progressed, reply_token, take_append, take_append_reply, take_commit, take_higher_vote, take_result, unled_number, vote_replied, vote_reply, vote_requested, with_machine}
-use Rattle.raft_calls.specs.Elections.{elected, first_entry, initialized}
-use Rattle.raft_calls.specs.Feeds.{WorldLed, asks_itself, called, fed, grant_own, hold_own, own_grant}
-use Rattle.raft_calls.specs.LeaderCalls.{entries_proposed, entry_proposed, heartbeats_sent, stepped_down}
+use Rattle.raft_node.specs.raft_state.declared.ids.LogId.{LogId}
+use Rattle.raft_node.specs.raft_state.declared.ids.Vote.{Vote}
+use Rattle.raft_node.specs.raft_state.declared.membership.Members.{Members}
+use Rattle.raft_node.specs.raft_state.Order.{vote_cmp}
+use Rattle.raft_node.specs.raft_error.declared.error.EngineError.{EngineError}
+use Rattle.raft_node.specs.raft_error.Number.{number_of}
+use Rattle.raft_node.specs.raft_command.declared.command.Command.TheVariants as command
+use Rattle.raft_node.specs.raft_command.declared.config.EngineConfig.{EngineConfig}
+use Rattle.raft_node.specs.raft_command.declared.message.AppendEntriesResponse.{AppendEntriesResponse}
+use Rattle.raft_node.specs.raft_command.declared.message.AppendEntriesResponse.TheVariants.{Success, PartialSuccess, Conflict, HigherVote}
+use Rattle.raft_node.specs.raft_command.declared.replication.ReplicationResult.{ReplicationResult}
+use Rattle.raft_node.specs.raft_command.declared.replication.RequestId.{RequestId}
+use Rattle.raft_node.specs.raft_steps.Engine.{as_uncommitted, elect, handle_vote_resp, initialize}
+use Rattle.raft_node.specs.raft_steps.InstallRefusals.{refusals_of_install}
+use Rattle.raft_node.specs.raft_steps.Installs.{handle_install_full_snapshot}
+use Rattle.raft_node.specs.raft_steps.Invariants.{IsSound}
+use Rattle.raft_node.specs.raft_steps.LeaderHandler.{leader_append_entries}
+use Rattle.raft_node.specs.raft_steps.Parts.{led_of, leading, on_core}
+use Rattle.raft_node.specs.raft_steps.Refusals.{refusals_of_counter_led, refusals_of_elect, refusals_of_initialize, refusals_of_local_progress, refusals_of_propose, refusals_of_spent, refusals_of_trigger_snapshot, refusals_of_update_vote, refusals_of_vote_resp}
+use Rattle.raft_node.specs.raft_steps.Replies.{update_progress}
+use Rattle.raft_node.specs.raft_steps.ReplicationHandler.{initiate_replication, update_local_progress}
+use Rattle.raft_node.specs.raft_steps.ReplyRefusals.{refusals_of_progress}
+use Rattle.raft_node.specs.raft_steps.RequestRefusals.{refusals_of_append, refusals_of_commit, refusals_of_vote_req}
+use Rattle.raft_node.specs.raft_steps.Requests.{append_answer, handle_commit_entries, handle_vote_req, vote_req_answer}
+use Rattle.raft_node.specs.raft_steps.SnapshotCalls.{trigger_purge_log}
+use Rattle.raft_node.specs.raft_steps.SnapshotHandler.{trigger_snapshot}
+use Rattle.raft_node.specs.raft_steps.Starts.{leader_step_down, refusals_of_startup, refusals_of_step_down, startup}
+use Rattle.raft_node.specs.raft_steps.VoteHandler.{update_vote}
+use Rattle.raft_node.specs.raft_store.declared.entry.Entry.{Entry}
+use Rattle.raft_node.specs.raft_store.Entries.{entry_meaning}
+use Rattle.raft_node.specs.raft_store.Types.{EngineView, WorldCandidate, WorldCommand, WorldLeader, WorldMachine}
+use Rattle.raft_node.specs.raft_calls.declared.feed.Feed.{Feed}
+use Rattle.raft_node.specs.raft_calls.declared.feed.Feed.TheVariants.{Saved, Stored, Nothing}
+use Rattle.raft_node.specs.raft_calls.declared.message.Body.{Body}
+use Rattle.raft_node.specs.raft_calls.declared.message.Body.TheVariants as body
+use Rattle.raft_node.specs.raft_calls.declared.message.Origin.{Origin}
+use Rattle.raft_node.specs.raft_calls.Deliveries.{answered, appended, deliver, led_call, progressed, reply_token, take_append, take_append_reply, take_commit, take_higher_vote, take_result, unled_number, vote_replied, vote_reply, vote_requested, with_machine}
+use Rattle.raft_node.specs.raft_calls.Elections.{elected, first_entry, initialized}
+use Rattle.raft_node.specs.raft_calls.Feeds.{WorldLed, asks_itself, called, fed, grant_own, hold_own, own_grant}
+use Rattle.raft_node.specs.raft_calls.LeaderCalls.{entries_proposed, entry_proposed, heartbeats_sent, stepped_down}
 use Rattle.raft_node.specs.Net.{NodeView}
-use Rattle.raft_calls.specs.Snapshots.{purge_triggered, snapshot_triggered}
-use Rattle.raft_calls.specs.Starts.{begun_anew, resumed}
+use Rattle.raft_node.specs.raft_calls.Snapshots.{purge_triggered, snapshot_triggered}
+use Rattle.raft_node.specs.raft_calls.Starts.{begun_anew, resumed}
 use Rattle.raft_node.specs.Starts.{engine_on}
-use Rattle.raft_calls.specs.Engines.{with_queue}
-use Rattle.raft_calls.proofs.StartReady.{begun_one}
+use Rattle.raft_node.specs.raft_calls.Engines.{with_queue}
+use Rattle.raft_node.proofs.raft_calls_proofs.StartReady.{begun_one}
 use Rattle.proof_deeds.specs.Chains.{LeaderFor}
 use Rattle.proof_deeds.specs.Knows.{Alone}
 use Rattle.proof_deeds.proofs.LedBuilds.{BuildsLed, NoRebuild, Unbuilding, commit_entries_builds, elect_builds, handle_append_builds, handle_install_builds, initialize_builds, on_core_builds, startup_builds, step_down_builds, then_builds, trigger_builds, trigger_purge_builds, update_vote_builds, vote_req_builds, vote_resp_builds}

@@ -1,34 +1,34 @@
 -- An event's calls at a node: a node at rest is at work after them.
 use Rattle.std.proofs.Common.{ℕ, ◌≡◌, true, false, List, map, refl, subst, Option, None, Some}
 use Rattle.std.specs.Prelude.{Err, IfSome}
-use Rattle.raft_error.specs.declared.error.EngineError.{EngineError}
-use Rattle.raft_steps.specs.Refusals.{refusals_of_spent}
-use Rattle.raft_steps.specs.SnapshotCalls.{finish_building_snapshot}
+use Rattle.raft_node.specs.raft_error.declared.error.EngineError.{EngineError}
+use Rattle.raft_node.specs.raft_steps.Refusals.{refusals_of_spent}
+use Rattle.raft_node.specs.raft_steps.SnapshotCalls.{finish_building_snapshot}
 use Rattle.std.specs.Ordering.{nat_cmp}
-use Rattle.raft_store.specs.declared.entry.Entry.{Entry}
-use Rattle.raft_store.specs.Built.{meta_of}
-use Rattle.raft_store.specs.Entries.{entry_meaning}
-use Rattle.raft_store.specs.Types.{EngineView}
-use Rattle.raft_schedule.specs.declared.event.SkipReason.{SkipReason}
-use Rattle.raft_schedule.specs.declared.event.SkipReason.TheVariants.{NothingBuilt}
-use Rattle.raft_schedule.specs.declared.event.Start.{Start}
-use Rattle.raft_schedule.specs.declared.event.Start.TheVariants.{Plain, Saved, Bare}
+use Rattle.raft_node.specs.raft_store.declared.entry.Entry.{Entry}
+use Rattle.raft_node.specs.raft_store.Built.{meta_of}
+use Rattle.raft_node.specs.raft_store.Entries.{entry_meaning}
+use Rattle.raft_node.specs.raft_store.Types.{EngineView}
+use Rattle.raft_node.specs.raft_schedule.declared.event.SkipReason.{SkipReason}
+use Rattle.raft_node.specs.raft_schedule.declared.event.SkipReason.TheVariants.{NothingBuilt}
+use Rattle.raft_node.specs.raft_schedule.declared.event.Start.{Start}
+use Rattle.raft_node.specs.raft_schedule.declared.event.Start.TheVariants.{Plain, Saved, Bare}
 use Rattle.raft_node.specs.declared.act.Act.{Act}
 use Rattle.raft_node.specs.declared.act.Act.TheVariants.{ChangeLearners, ChangeMembership, Elect, Fail, FinishSnapshot, Initialize, Propose, Read, Restart, SendHeartbeat, StepDown, Stop, Take, TriggerPurge, TriggerSnapshot}
 use Rattle.raft_node.specs.declared.given.Given.{Given}
-use Rattle.raft_calls.specs.Deliveries.{answered, deliver, with_machine}
+use Rattle.raft_node.specs.raft_calls.Deliveries.{answered, deliver, with_machine}
 use Rattle.raft_node.specs.Events.{calls_at, skip_reason, skip_stopped, turn_of, work_of}
-use Rattle.raft_calls.specs.Elections.{elected, initialized}
+use Rattle.raft_node.specs.raft_calls.Elections.{elected, initialized}
 use Rattle.raft_node.specs.Execute.{effects}
-use Rattle.raft_calls.specs.Held.{IsReadyWhereRunning}
-use Rattle.raft_calls.specs.LeaderCalls.{failed, heartbeats_sent, inflight_to, proposed, request_of, stepped_down, value_entry}
-use Rattle.raft_calls.specs.Memberships.{groups_in, learners_changed, members_with, membership_changed, membership_entry}
+use Rattle.raft_node.specs.raft_calls.Held.{IsReadyWhereRunning}
+use Rattle.raft_node.specs.raft_calls.LeaderCalls.{failed, heartbeats_sent, inflight_to, proposed, request_of, stepped_down, value_entry}
+use Rattle.raft_node.specs.raft_calls.Memberships.{groups_in, learners_changed, members_with, membership_changed, membership_entry}
 use Rattle.raft_node.specs.Net.{NodeView, Records, stopped_node}
 use Rattle.raft_node.specs.Snapshots.{kept_built}
-use Rattle.raft_calls.specs.Snapshots.{purge_triggered, snapshot_triggered, told_built}
+use Rattle.raft_node.specs.raft_calls.Snapshots.{purge_triggered, snapshot_triggered, told_built}
 use Rattle.raft_node.specs.Work.{stopped}
 use Rattle.raft_node.proofs.Ready.{calls_ready, node_after}
-use Rattle.raft_calls.proofs.Ready.{elects_unled, led_by_none}
+use Rattle.raft_node.proofs.raft_calls_proofs.Ready.{elects_unled, led_by_none}
 use Rattle.proof_deeds.specs.Chains.{Reached}
 use Rattle.proof_deeds.specs.Images.{Ideal, images, setup_of}
 use Rattle.proof_deeds.specs.Nets.{EngineFollows, NodeFollows}

@@ -2,29 +2,29 @@
 -- which its leader steps down and node 2 is elected; and a read at a second leader.
 use Rattle.std.specs.Prelude.{◌≡◌, ℕ, List, [], ◌∷◌, None, Some, filter, map, nat_eq, refl}
 use Rattle.std.specs.Option.{option_map}
-use Rattle.raft_steps.specs.Commit.{commit_by}
-use Rattle.raft_steps.specs.Engine.{elect, handle_vote_resp, initialize, lead_by_votes, take_grant}
-use Rattle.raft_steps.specs.FollowingHandler as following
-use Rattle.raft_steps.specs.FollowingHandler.{append_entries, do_append_entries}
-use Rattle.raft_steps.specs.LeaderHandler.{leader_append_entries, proposed}
-use Rattle.raft_steps.specs.LogHandler.{purge_log, try_purge_log}
-use Rattle.raft_steps.specs.Replies.{purge_unless_inflight, send_next, update_failed_progress, update_leader_clock, update_matching, update_progress, update_success_progress}
-use Rattle.raft_steps.specs.ReplicationHandler.{append_membership_led, initiate_replication, rebuild_progresses, rebuild_replication_streams, try_commit_quorum_accepted, update_local_progress}
-use Rattle.raft_steps.specs.Requests as requests
-use Rattle.raft_steps.specs.Requests.{append_answer, follow, handle_append_entries, handle_commit_entries, handle_vote_req, vote_req_answer}
-use Rattle.raft_steps.specs.ServerStateHandler.{update_role}
-use Rattle.raft_steps.specs.SnapshotHandler.{snapshot_where_due, trigger_snapshot}
-use Rattle.raft_steps.specs.Starts.{leader_step_down}
-use Rattle.raft_steps.specs.VoteHandler.{become_following, become_leader, begin_lead, lead_anew, update_internal_server_state, update_vote}
-use Rattle.raft_steps.proofs.Example.{lid, settings, three}
-use Rattle.raft_store.specs.declared.entry.Entry.{Entry}
-use Rattle.raft_store.specs.declared.entry.Payload.TheVariants.{Membership}
-use Rattle.raft_schedule.specs.declared.event.Event.{Event}
-use Rattle.raft_store.specs.declared.entry.Value.TheVariants.{Number}
-use Rattle.raft_schedule.specs.declared.event.EventKind.TheVariants.{Change, Deliver, Down, Init, Propose, Read, Timeout}
+use Rattle.raft_node.specs.raft_steps.Commit.{commit_by}
+use Rattle.raft_node.specs.raft_steps.Engine.{elect, handle_vote_resp, initialize, lead_by_votes, take_grant}
+use Rattle.raft_node.specs.raft_steps.FollowingHandler as following
+use Rattle.raft_node.specs.raft_steps.FollowingHandler.{append_entries, do_append_entries}
+use Rattle.raft_node.specs.raft_steps.LeaderHandler.{leader_append_entries, proposed}
+use Rattle.raft_node.specs.raft_steps.LogHandler.{purge_log, try_purge_log}
+use Rattle.raft_node.specs.raft_steps.Replies.{purge_unless_inflight, send_next, update_failed_progress, update_leader_clock, update_matching, update_progress, update_success_progress}
+use Rattle.raft_node.specs.raft_steps.ReplicationHandler.{append_membership_led, initiate_replication, rebuild_progresses, rebuild_replication_streams, try_commit_quorum_accepted, update_local_progress}
+use Rattle.raft_node.specs.raft_steps.Requests as requests
+use Rattle.raft_node.specs.raft_steps.Requests.{append_answer, follow, handle_append_entries, handle_commit_entries, handle_vote_req, vote_req_answer}
+use Rattle.raft_node.specs.raft_steps.ServerStateHandler.{update_role}
+use Rattle.raft_node.specs.raft_steps.SnapshotHandler.{snapshot_where_due, trigger_snapshot}
+use Rattle.raft_node.specs.raft_steps.Starts.{leader_step_down}
+use Rattle.raft_node.specs.raft_steps.VoteHandler.{become_following, become_leader, begin_lead, lead_anew, update_internal_server_state, update_vote}
+use Rattle.raft_node.proofs.raft_steps_proofs.Example.{lid, settings, three}
+use Rattle.raft_node.specs.raft_store.declared.entry.Entry.{Entry}
+use Rattle.raft_node.specs.raft_store.declared.entry.Payload.TheVariants.{Membership}
+use Rattle.raft_node.specs.raft_schedule.declared.event.Event.{Event}
+use Rattle.raft_node.specs.raft_store.declared.entry.Value.TheVariants.{Number}
+use Rattle.raft_node.specs.raft_schedule.declared.event.EventKind.TheVariants.{Change, Deliver, Down, Init, Propose, Read, Timeout}
 use Rattle.raft_node.specs.Events.{finish, happens, place_of, played}
-use Rattle.raft_calls.specs.Elections.{first_entry}
-use Rattle.raft_calls.specs.Memberships.{members_with}
+use Rattle.raft_node.specs.raft_calls.Elections.{first_entry}
+use Rattle.raft_node.specs.raft_calls.Memberships.{members_with}
 use Rattle.raft_node.specs.Net.{node_at}
 use Rattle.raft_node.specs.declared.given.Given.{Given}
 use Rattle.raft_node.specs.Runs.{with_event, world_after}

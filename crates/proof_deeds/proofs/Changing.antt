@@ -7,31 +7,31 @@ use Rattle.std.specs.declared.cmp.Ordering.TheVariants.{Less, Equal, Greater}
 use Rattle.std.specs.Ordering.{is_eq, is_le, is_lt, nat_cmp, ordering_then}
 use Rattle.std.proofs.lemmas.Bool.{and_parts, cases_lt}
 use Rattle.std.proofs.lemmas.Bool.Decides.{nat_tests}
-use Rattle.raft_state.proofs.StateLaws.{committed_has}
+use Rattle.raft_node.proofs.raft_state_proofs.StateLaws.{committed_has}
 use Rattle.std.proofs.lemmas.Cmp.{nat_cmp_total}
 use Rattle.std.proofs.lemmas.List.{length-map}
-use Rattle.raft_state.specs.declared.ids.LeaderId.{LeaderId}
-use Rattle.raft_state.specs.declared.ids.LogId.{LogId}
-use Rattle.raft_state.specs.declared.membership.Members.{Members}
-use Rattle.raft_state.specs.Fits.{fits, is_below}
-use Rattle.raft_state.specs.Invariants.{IsSoundState, IsUnder, first_index}
-use Rattle.raft_state.specs.Log.{at}
-use Rattle.raft_state.specs.Order.{next, last_id_cmp, leader_id_cmp}
-use Rattle.raft_state.specs.Same.{nat_same, leader_id_same, log_id_same}
-use Rattle.raft_state.specs.State.{is_found}
-use Rattle.raft_state.proofs.LogLists.{Has, at_has, run_low}
-use Rattle.raft_state.proofs.Orders.{is_equal, le_antisymm, leader_total, or_cases}
-use Rattle.raft_steps.specs.Conditions.{is_same_group}
+use Rattle.raft_node.specs.raft_state.declared.ids.LeaderId.{LeaderId}
+use Rattle.raft_node.specs.raft_state.declared.ids.LogId.{LogId}
+use Rattle.raft_node.specs.raft_state.declared.membership.Members.{Members}
+use Rattle.raft_node.specs.raft_state.Fits.{fits, is_below}
+use Rattle.raft_node.specs.raft_state.Invariants.{IsSoundState, IsUnder, first_index}
+use Rattle.raft_node.specs.raft_state.Log.{at}
+use Rattle.raft_node.specs.raft_state.Order.{next, last_id_cmp, leader_id_cmp}
+use Rattle.raft_node.specs.raft_state.Same.{nat_same, leader_id_same, log_id_same}
+use Rattle.raft_node.specs.raft_state.State.{is_found}
+use Rattle.raft_node.proofs.raft_state_proofs.LogLists.{Has, at_has, run_low}
+use Rattle.raft_node.proofs.raft_state_proofs.Orders.{is_equal, le_antisymm, leader_total, or_cases}
+use Rattle.raft_node.specs.raft_steps.Conditions.{is_same_group}
 use Rattle.proof_agreement.specs.Machine.{start, Setup, Includes, IncludesGroup, ShareGroup, last_leader}
 use Rattle.proof_agreement.specs.Stores.{whole, entry_at, effective_membership_of}
 use Rattle.proof_agreement.specs.Deeds.{MayAppendOwn, Leads, last_membership_of}
 use Rattle.proof_agreement.proofs.StoresBridge.{ids_rise}
 use Rattle.proof_agreement.proofs.WholeLogs.{get_left}
-use Rattle.raft_store.specs.declared.entry.Entry.{Entry}
-use Rattle.raft_store.specs.Entries.{entry_meaning, members_of}
-use Rattle.raft_store.specs.Store as store
-use Rattle.raft_store.specs.Types.{WorldStore}
-use Rattle.raft_store.proofs.Lists.{Run}
+use Rattle.raft_node.specs.raft_store.declared.entry.Entry.{Entry}
+use Rattle.raft_node.specs.raft_store.Entries.{entry_meaning, members_of}
+use Rattle.raft_node.specs.raft_store.Store as store
+use Rattle.raft_node.specs.raft_store.Types.{WorldStore}
+use Rattle.raft_node.proofs.raft_store_proofs.Lists.{Run}
 use Rattle.proof_mirror.specs.Ready.{InStep, IsStored}
 use Rattle.proof_mirror.proofs.Shape.{Shape, shape_of, shaped_of, whole_run}
 use Rattle.proof_deeds.specs.Follows.{FrontIs, StoreIs}

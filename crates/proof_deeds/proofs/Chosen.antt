@@ -6,35 +6,35 @@ use Rattle.std.specs.Cmp.{tied_itself}
 use Rattle.std.specs.List.{AllByRecursion}
 use Rattle.std.specs.Ordering.{is_gt, is_le, nat_cmp}
 use Rattle.std.proofs.lemmas.Cmp.{nat_cmp_total}
-use Rattle.raft_state.specs.declared.ids.LeaderId.{LeaderId}
-use Rattle.raft_state.specs.declared.ids.LogId.{LogId}
-use Rattle.raft_state.specs.declared.ids.Vote.{Vote}
-use Rattle.raft_state.specs.declared.membership.Members.{Members}
-use Rattle.raft_state.specs.Order.{log_id_cmp, vote_cmp}
-use Rattle.raft_state.proofs.Orders.{vote_total}
-use Rattle.raft_command.specs.declared.message.AppendEntriesResponse.{AppendEntriesResponse}
-use Rattle.raft_command.specs.Message.{is_success}
-use Rattle.raft_steps.specs.FollowingHandler.{memberships_in}
-use Rattle.raft_proposer.proofs.Elements.{In}
+use Rattle.raft_node.specs.raft_state.declared.ids.LeaderId.{LeaderId}
+use Rattle.raft_node.specs.raft_state.declared.ids.LogId.{LogId}
+use Rattle.raft_node.specs.raft_state.declared.ids.Vote.{Vote}
+use Rattle.raft_node.specs.raft_state.declared.membership.Members.{Members}
+use Rattle.raft_node.specs.raft_state.Order.{log_id_cmp, vote_cmp}
+use Rattle.raft_node.proofs.raft_state_proofs.Orders.{vote_total}
+use Rattle.raft_node.specs.raft_command.declared.message.AppendEntriesResponse.{AppendEntriesResponse}
+use Rattle.raft_node.specs.raft_command.Message.{is_success}
+use Rattle.raft_node.specs.raft_steps.FollowingHandler.{memberships_in}
+use Rattle.raft_node.proofs.raft_proposer_proofs.Elements.{In}
 use Rattle.proof_agreement.specs.Machine.{Setup, Includes, IsQuorum, start as start_world}
 use Rattle.proof_agreement.specs.Stores.{EstablishedLeader, empty, entry_at, whole, effective_membership_of}
 use Rattle.proof_agreement.specs.Deeds.{AllMayDo, HasAccepted, run_all}
 use Rattle.proof_agreement.specs.StoresLaws.{BeginsWith, IsChosen, LedWith, leader_store}
 use Rattle.proof_agreement.proofs.StoresBridge.{accepted_low, begins_first}
 use Rattle.proof_agreement.proofs.StoresTheorems.{all_join, chosen_complete, run_all-append}
-use Rattle.raft_store.specs.declared.entry.Entry.{Entry}
-use Rattle.raft_store.specs.Entries.{entry_meaning, members_of}
-use Rattle.raft_store.specs.Mirror.{last_two, none}
-use Rattle.raft_store.specs.Store as store
-use Rattle.raft_schedule.specs.declared.event.Event.{Event}
-use Rattle.raft_calls.specs.declared.message.Body.{Body}
-use Rattle.raft_calls.specs.declared.message.Body.TheVariants as body
-use Rattle.raft_calls.specs.declared.message.Message.{Message}
+use Rattle.raft_node.specs.raft_store.declared.entry.Entry.{Entry}
+use Rattle.raft_node.specs.raft_store.Entries.{entry_meaning, members_of}
+use Rattle.raft_node.specs.raft_store.Mirror.{last_two, none}
+use Rattle.raft_node.specs.raft_store.Store as store
+use Rattle.raft_node.specs.raft_schedule.declared.event.Event.{Event}
+use Rattle.raft_node.specs.raft_calls.declared.message.Body.{Body}
+use Rattle.raft_node.specs.raft_calls.declared.message.Body.TheVariants as body
+use Rattle.raft_node.specs.raft_calls.declared.message.Message.{Message}
 use Rattle.raft_node.specs.declared.given.Given.{Given}
 use Rattle.raft_node.specs.Runs.{moment, world_after}
 use Rattle.raft_node.specs.Chosen.{Acknowledges, KeepsChosen, AcknowledgedUpTo}
 use Rattle.raft_node.specs.WellFormed.{IsWellFormed}
-use Rattle.raft_calls.specs.Elections.{first_entry}
+use Rattle.raft_node.specs.raft_calls.Elections.{first_entry}
 use Rattle.proof_deeds.specs.Chains.{Does, Reached}
 use Rattle.proof_deeds.specs.Follows.{AcceptedId, AcceptedUpTo, BodyIs, EstablishedIs, MessageIs}
 use Rattle.proof_deeds.specs.Images.{Ideal, IdealEntry, IdealStore, IsNamed, number, images, setup_of, image}

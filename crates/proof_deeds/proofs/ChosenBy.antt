@@ -6,30 +6,30 @@ use Rattle.std.specs.Ordering.{nat_cmp}
 use Rattle.std.proofs.lemmas.Bool.{lt-ltb}
 use Rattle.std.proofs.lemmas.Cmp.{nat_cmp_total}
 use Rattle.std.proofs.lemmas.List.{length-map}
-use Rattle.raft_state.specs.declared.ids.LeaderId.{LeaderId}
-use Rattle.raft_state.specs.declared.ids.LogId.{LogId}
-use Rattle.raft_state.specs.declared.ids.Vote.{Vote}
-use Rattle.raft_state.specs.declared.membership.Members.{Members}
-use Rattle.raft_state.specs.declared.membership.StoredMembership.{StoredMembership}
-use Rattle.raft_state.specs.Log.{at}
-use Rattle.raft_state.specs.LogLaws.{IsRun, at-run}
-use Rattle.raft_state.specs.Same.{nat_same}
-use Rattle.raft_state.specs.Sorted.{has_id}
-use Rattle.raft_state.proofs.StateLaws.{is_found_at}
-use Rattle.raft_progress.specs.Quorum.{is_majority, is_quorum}
-use Rattle.raft_progress.specs.QuorumLaws.{has_from_contains}
-use Rattle.raft_command.specs.declared.replication.ReplicationSessionId.{ReplicationSessionId}
-use Rattle.raft_proposer.proofs.Elements.{In}
+use Rattle.raft_node.specs.raft_state.declared.ids.LeaderId.{LeaderId}
+use Rattle.raft_node.specs.raft_state.declared.ids.LogId.{LogId}
+use Rattle.raft_node.specs.raft_state.declared.ids.Vote.{Vote}
+use Rattle.raft_node.specs.raft_state.declared.membership.Members.{Members}
+use Rattle.raft_node.specs.raft_state.declared.membership.StoredMembership.{StoredMembership}
+use Rattle.raft_node.specs.raft_state.Log.{at}
+use Rattle.raft_node.specs.raft_state.LogLaws.{IsRun, at-run}
+use Rattle.raft_node.specs.raft_state.Same.{nat_same}
+use Rattle.raft_node.specs.raft_state.Sorted.{has_id}
+use Rattle.raft_node.proofs.raft_state_proofs.StateLaws.{is_found_at}
+use Rattle.raft_node.specs.raft_progress.Quorum.{is_majority, is_quorum}
+use Rattle.raft_node.specs.raft_progress.QuorumLaws.{has_from_contains}
+use Rattle.raft_node.specs.raft_command.declared.replication.ReplicationSessionId.{ReplicationSessionId}
+use Rattle.raft_node.proofs.raft_proposer_proofs.Elements.{In}
 use Rattle.proof_agreement.specs.Machine.{IsMajority, IsMajorityOfEach, IsQuorum, count, start}
 use Rattle.proof_agreement.specs.Stores.{effective_membership_of, entry_at, whole}
 use Rattle.proof_agreement.specs.Deeds.{HasAccepted, MayCommitByQuorum}
 use Rattle.proof_agreement.proofs.StoresBridge.{accepted_own}
-use Rattle.raft_store.specs.declared.entry.Entry.{Entry}
-use Rattle.raft_store.specs.Entries.{entry_meaning}
-use Rattle.raft_store.specs.Store as store
-use Rattle.raft_store.specs.Types.{WorldStore}
+use Rattle.raft_node.specs.raft_store.declared.entry.Entry.{Entry}
+use Rattle.raft_node.specs.raft_store.Entries.{entry_meaning}
+use Rattle.raft_node.specs.raft_store.Store as store
+use Rattle.raft_node.specs.raft_store.Types.{WorldStore}
 use Rattle.proof_mirror.specs.Ready.{Shaped}
-use Rattle.raft_calls.specs.declared.message.Message.{Message}
+use Rattle.raft_node.specs.raft_calls.declared.message.Message.{Message}
 use Rattle.raft_node.specs.declared.record.Decided.{Decided}
 use Rattle.raft_node.specs.Chosen.{Acknowledges, AcknowledgedUpTo, effective_in}
 use Rattle.proof_deeds.specs.Chains.{IsAcknowledged, IsAcknowledgement, Reached}

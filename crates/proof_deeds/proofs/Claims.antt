@@ -1,7 +1,7 @@
 -- The vote of a node is its own, or the node that it names has stored it, or a greater one.
 use Rattle.std.proofs.Common.{ℕ, zero, suc, ◌≤◌, ◌≡◌, ⊎_elim, true, false, List, [], ◌∷◌, arith, refl, sym, ap, subst}
-use Rattle.raft_state.specs.declared.ids.Vote.{Vote}
-use Rattle.raft_state.specs.declared.membership.Members.{Members}
+use Rattle.raft_node.specs.raft_state.declared.ids.Vote.{Vote}
+use Rattle.raft_node.specs.raft_state.declared.membership.Members.{Members}
 use Rattle.proof_agreement.specs.Machine.{World, Setup, Includes, start}
 use Rattle.proof_agreement.specs.Stores.{Store, Stores, AppendRequest, SnapshotRequest, VoteRequest, empty}
 use Rattle.proof_agreement.specs.Deeds.{Deed, SaveVote, Win, FollowByAppend, FollowBySnapshot, RequestVotes, AnswerVote, Initialize, LeaderAppend, FollowerAppend, TruncateConflict, TruncateForSnapshot, Purge, BuildStreams, EndStreams, RecordEstablished, SendAppend, SendSnapshot, AcceptAppend, AcceptSnapshot, CommitByQuorum, FollowerCommit, LeaderCommit, Apply, InstallSnapshot, Note, BuildSnapshot, DropNote, ForgetSaved, Restart, RestartSaved, MayDo, AllMayDo, put, does, run_all}

@@ -2,21 +2,21 @@
 use Rattle.std.proofs.Common.{ℕ, suc, ◌+◌, ◌<◌, ◌≡◌, ◌≢◌, inl, Bool, List, [], ◌∷◌, ◌++◌, length, map, take, arith, refl, sym, ap, ap₂, ◌∙◌, subst, Option, None, Some, length-append, append_assoc}
 use Rattle.std.specs.List.{AllByRecursion}
 use Rattle.std.proofs.lemmas.List.{length-map, take-map, get_or_at, map-append}
-use Rattle.raft_state.specs.declared.ids.LeaderId.{LeaderId}
-use Rattle.raft_state.specs.declared.ids.LogId.{LogId}
-use Rattle.raft_command.specs.declared.command.Command.TheVariants as command
-use Rattle.raft_command.specs.declared.sm.CommandPayload.TheVariants as payload
-use Rattle.raft_command.specs.declared.replication.ReplicationSessionId.{ReplicationSessionId}
+use Rattle.raft_node.specs.raft_state.declared.ids.LeaderId.{LeaderId}
+use Rattle.raft_node.specs.raft_state.declared.ids.LogId.{LogId}
+use Rattle.raft_node.specs.raft_command.declared.command.Command.TheVariants as command
+use Rattle.raft_node.specs.raft_command.declared.sm.CommandPayload.TheVariants as payload
+use Rattle.raft_node.specs.raft_command.declared.replication.ReplicationSessionId.{ReplicationSessionId}
 use Rattle.proof_agreement.specs.Machine.{Setup}
 use Rattle.proof_agreement.specs.Stores.{ExecutedCommit, DecidedCommit, whole, entry_at, first_entry}
 use Rattle.proof_agreement.specs.Deeds.{CommitByQuorum, Apply, Note, MayCommitByQuorum, MayDo, AllMayDo, with_committed, heartbeat, put, does, run_all}
-use Rattle.raft_store.specs.declared.entry.Entry.{Entry}
-use Rattle.raft_store.specs.Store as store
-use Rattle.raft_store.specs.Store.{due}
-use Rattle.raft_store.specs.Types.{WorldStore, EngineView}
-use Rattle.raft_store.proofs.Lists.{Run}
+use Rattle.raft_node.specs.raft_store.declared.entry.Entry.{Entry}
+use Rattle.raft_node.specs.raft_store.Store as store
+use Rattle.raft_node.specs.raft_store.Store.{due}
+use Rattle.raft_node.specs.raft_store.Types.{WorldStore, EngineView}
+use Rattle.raft_node.proofs.raft_store_proofs.Lists.{Run}
 use Rattle.raft_node.specs.declared.node.Turn.{Turn}
-use Rattle.raft_calls.specs.declared.message.Body.{Body}
+use Rattle.raft_node.specs.raft_calls.declared.message.Body.{Body}
 use Rattle.raft_node.specs.declared.record.Executed.{Executed}
 use Rattle.raft_node.specs.Execute.{Effects, exec, sending, to_each, replicate_committed, decided_by}
 use Rattle.raft_node.specs.Execute as execute

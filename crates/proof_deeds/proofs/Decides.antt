@@ -6,41 +6,41 @@ use Rattle.std.specs.declared.cmp.Ordering.{Ordering}
 use Rattle.std.specs.declared.cmp.Ordering.TheVariants.{Less, Equal, Greater}
 use Rattle.std.specs.Ordering.{is_eq, is_ge, is_gt, is_le, is_lt, nat_cmp, ordering_reverse}
 use Rattle.std.proofs.lemmas.Cmp.{nat_cmp_total}
-use Rattle.raft_state.specs.declared.ids.LogId.{LogId}
-use Rattle.raft_state.specs.declared.membership.Members.{Members}
-use Rattle.raft_state.specs.Fits.{fits}
-use Rattle.raft_state.specs.Invariants.{first_index}
-use Rattle.raft_state.specs.Log.{at}
-use Rattle.raft_state.specs.LogLaws.{IsRun, at-run}
-use Rattle.raft_state.specs.Members.{voter_ids, is_voter}
-use Rattle.raft_state.specs.Order.{next, last_id_cmp}
-use Rattle.raft_state.specs.Same.{nat_same}
-use Rattle.raft_state.specs.Sorted.{has_id}
-use Rattle.raft_state.specs.State.{commits}
-use Rattle.raft_state.proofs.LogLists.{at_has, has_le_index}
-use Rattle.raft_state.proofs.Orders.{or_cases, last_total, le_of_not_lt, lt_of_gt, lt_le, is_equal}
-use Rattle.raft_progress_entry.specs.declared.entry.ProgressEntry.{ProgressEntry}
-use Rattle.raft_progress.specs.Quorum.{is_quorum}
-use Rattle.raft_progress.specs.Table.{holders, voter_rows}
-use Rattle.raft_progress.proofs.GrantedLaws.{is_reached, voter_values, granted_of, granted_is_reached}
-use Rattle.raft_command.specs.declared.config.EngineConfig.{EngineConfig}
-use Rattle.raft_steps.specs.Invariants.{EntryFits, IsSoundLed}
-use Rattle.raft_proposer.specs.Leader.{granted_id}
-use Rattle.raft_steps.proofs.KeptCommit.{each_taken, granted_fits}
+use Rattle.raft_node.specs.raft_state.declared.ids.LogId.{LogId}
+use Rattle.raft_node.specs.raft_state.declared.membership.Members.{Members}
+use Rattle.raft_node.specs.raft_state.Fits.{fits}
+use Rattle.raft_node.specs.raft_state.Invariants.{first_index}
+use Rattle.raft_node.specs.raft_state.Log.{at}
+use Rattle.raft_node.specs.raft_state.LogLaws.{IsRun, at-run}
+use Rattle.raft_node.specs.raft_state.Members.{voter_ids, is_voter}
+use Rattle.raft_node.specs.raft_state.Order.{next, last_id_cmp}
+use Rattle.raft_node.specs.raft_state.Same.{nat_same}
+use Rattle.raft_node.specs.raft_state.Sorted.{has_id}
+use Rattle.raft_node.specs.raft_state.State.{commits}
+use Rattle.raft_node.proofs.raft_state_proofs.LogLists.{at_has, has_le_index}
+use Rattle.raft_node.proofs.raft_state_proofs.Orders.{or_cases, last_total, le_of_not_lt, lt_of_gt, lt_le, is_equal}
+use Rattle.raft_node.specs.raft_progress_entry.declared.entry.ProgressEntry.{ProgressEntry}
+use Rattle.raft_node.specs.raft_progress.Quorum.{is_quorum}
+use Rattle.raft_node.specs.raft_progress.Table.{holders, voter_rows}
+use Rattle.raft_node.proofs.raft_progress_proofs.GrantedLaws.{is_reached, voter_values, granted_of, granted_is_reached}
+use Rattle.raft_node.specs.raft_command.declared.config.EngineConfig.{EngineConfig}
+use Rattle.raft_node.specs.raft_steps.Invariants.{EntryFits, IsSoundLed}
+use Rattle.raft_node.specs.raft_proposer.Leader.{granted_id}
+use Rattle.raft_node.proofs.raft_steps_proofs.KeptCommit.{each_taken, granted_fits}
 use Rattle.proof_mirror.proofs.Sound.{commit_fits}
 use Rattle.proof_agreement.specs.Machine.{Setup, Includes, IsQuorum}
 use Rattle.proof_agreement.specs.Stores.{Accepted, whole, entry_at, effective_membership_of}
 use Rattle.proof_agreement.specs.Deeds.{HasAccepted, MayCommitByQuorum}
-use Rattle.raft_store.specs.declared.entry.Entry.{Entry}
-use Rattle.raft_store.specs.Entries.{entry_meaning}
-use Rattle.raft_store.specs.Store as store
-use Rattle.raft_store.specs.Types.{WorldStore}
+use Rattle.raft_node.specs.raft_store.declared.entry.Entry.{Entry}
+use Rattle.raft_node.specs.raft_store.Entries.{entry_meaning}
+use Rattle.raft_node.specs.raft_store.Store as store
+use Rattle.raft_node.specs.raft_store.Types.{WorldStore}
 use Rattle.proof_mirror.specs.Ready.{InStep}
 use Rattle.proof_mirror.proofs.Commits.{whole_at}
 use Rattle.proof_mirror.proofs.Places.{at_reaches}
 use Rattle.proof_mirror.proofs.Shape.{Shape, shape_of, whole_run, ids_of_run, shaped_of}
 use Rattle.raft_node.specs.declared.node.Turn.{Turn}
-use Rattle.raft_calls.specs.Feeds.{WorldLed}
+use Rattle.raft_node.specs.raft_calls.Feeds.{WorldLed}
 use Rattle.proof_deeds.specs.Follows.{StoreIs}
 use Rattle.proof_deeds.specs.Images.{Ideal, IdealStore, IsNamed, number, groups_in}
 use Rattle.proof_deeds.specs.Knows.{KnowsMatch, KnowsLed}

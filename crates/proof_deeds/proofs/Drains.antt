@@ -6,25 +6,25 @@ use Rattle.std.specs.List.{AllByRecursion}
 use Rattle.std.specs.Ordering.{is_eq, nat_cmp}
 use Rattle.std.proofs.lemmas.Bool.{and_parts}
 use Rattle.std.proofs.lemmas.Cmp.{nat_cmp_total}
-use Rattle.raft_state.specs.declared.ids.LogId.{LogId}
-use Rattle.raft_state.specs.declared.ids.LeaderId.{LeaderId}
-use Rattle.raft_state.specs.declared.ids.Vote.{Vote}
-use Rattle.raft_state.specs.declared.membership.Members.{Members}
-use Rattle.raft_state.specs.Fits.{fits}
-use Rattle.raft_state.specs.Order.{vote_cmp}
-use Rattle.raft_state.specs.Same.{nat_same}
-use Rattle.raft_progress.specs.Table.{is_in}
-use Rattle.raft_command.specs.Queue.{popped}
-use Rattle.raft_steps.specs.Refusals.{refusals_of_local_progress, refusals_of_vote_resp}
-use Rattle.raft_steps.specs.Engine.{handle_vote_resp}
-use Rattle.raft_steps.specs.Invariants.{IsSound}
-use Rattle.raft_steps.specs.Parts.{led_of, leading}
-use Rattle.raft_steps.specs.ReplicationHandler.{update_local_progress}
-use Rattle.raft_steps.proofs.Kept.{TakesIds}
-use Rattle.raft_steps.proofs.KeptEngine.{handle_vote_resp_is_sound}
-use Rattle.raft_store.specs.declared.entry.Entry.{Entry}
-use Rattle.raft_store.specs.Entries.{entry_meaning}
-use Rattle.raft_store.specs.Types.{WorldCandidate, WorldCommand, WorldLeader, WorldMachine, WorldStore, EngineView}
+use Rattle.raft_node.specs.raft_state.declared.ids.LogId.{LogId}
+use Rattle.raft_node.specs.raft_state.declared.ids.LeaderId.{LeaderId}
+use Rattle.raft_node.specs.raft_state.declared.ids.Vote.{Vote}
+use Rattle.raft_node.specs.raft_state.declared.membership.Members.{Members}
+use Rattle.raft_node.specs.raft_state.Fits.{fits}
+use Rattle.raft_node.specs.raft_state.Order.{vote_cmp}
+use Rattle.raft_node.specs.raft_state.Same.{nat_same}
+use Rattle.raft_node.specs.raft_progress.Table.{is_in}
+use Rattle.raft_node.specs.raft_command.Queue.{popped}
+use Rattle.raft_node.specs.raft_steps.Refusals.{refusals_of_local_progress, refusals_of_vote_resp}
+use Rattle.raft_node.specs.raft_steps.Engine.{handle_vote_resp}
+use Rattle.raft_node.specs.raft_steps.Invariants.{IsSound}
+use Rattle.raft_node.specs.raft_steps.Parts.{led_of, leading}
+use Rattle.raft_node.specs.raft_steps.ReplicationHandler.{update_local_progress}
+use Rattle.raft_node.proofs.raft_steps_proofs.Kept.{TakesIds}
+use Rattle.raft_node.proofs.raft_steps_proofs.KeptEngine.{handle_vote_resp_is_sound}
+use Rattle.raft_node.specs.raft_store.declared.entry.Entry.{Entry}
+use Rattle.raft_node.specs.raft_store.Entries.{entry_meaning}
+use Rattle.raft_node.specs.raft_store.Types.{WorldCandidate, WorldCommand, WorldLeader, WorldMachine, WorldStore, EngineView}
 use Rattle.proof_mirror.specs.Ready.{Shaped, Ordered, Fits, Awaits, PendingIn, PendingLed}
 use Rattle.proof_mirror.proofs.Elections.{pending_vote_resp}
 use Rattle.proof_mirror.proofs.Orders.{ordered_exec}
@@ -33,15 +33,15 @@ use Rattle.proof_mirror.proofs.Queued.{awaits_pop}
 use Rattle.proof_mirror.proofs.Replying.{pending_own}
 use Rattle.proof_mirror.proofs.Sound.{machine_asks}
 use Rattle.proof_mirror.proofs.Starting.{sound_order}
-use Rattle.raft_calls.specs.declared.feed.Feed.{Feed}
-use Rattle.raft_calls.specs.declared.feed.Feed.TheVariants.{Saved, Stored, Nothing}
+use Rattle.raft_node.specs.raft_calls.declared.feed.Feed.{Feed}
+use Rattle.raft_node.specs.raft_calls.declared.feed.Feed.TheVariants.{Saved, Stored, Nothing}
 use Rattle.raft_node.specs.declared.node.Turn.{Turn}
 use Rattle.raft_node.specs.Execute.{Effects, exec}
-use Rattle.raft_calls.specs.Feeds.{asks_itself, called, fed, feed_of, grant_own, hold_own, own_grant}
-use Rattle.raft_calls.specs.Held.{Held, IsReady}
+use Rattle.raft_node.specs.raft_calls.Feeds.{asks_itself, called, fed, feed_of, grant_own, hold_own, own_grant}
+use Rattle.raft_node.specs.raft_calls.Held.{Held, IsReady}
 use Rattle.raft_node.specs.Work.{Work, done_of, one_less, step_of, stopped, stops, work_step, worked}
-use Rattle.raft_calls.specs.Engines.{with_queue}
-use Rattle.raft_calls.proofs.Ready.{Taken, contained_fits, grant_own_ready, hold_own_ready, popped_ready}
+use Rattle.raft_node.specs.raft_calls.Engines.{with_queue}
+use Rattle.raft_node.proofs.raft_calls_proofs.Ready.{Taken, contained_fits, grant_own_ready, hold_own_ready, popped_ready}
 use Rattle.raft_node.proofs.Worked.{worked-keeps}
 use Rattle.raft_node.specs.Runs.{whole_logs}
 use Rattle.proof_agreement.specs.Deeds.{EndStreams, does}

@@ -3,26 +3,26 @@ use Rattle.std.proofs.Common.{ℕ, ◌≡◌, ◌∙◌, inl, Bool, true, Option
 use Rattle.std.specs.Prelude.{IfSome}
 use Rattle.std.specs.Ordering.{is_eq, nat_cmp}
 use Rattle.std.proofs.lemmas.Cmp.{nat_cmp_total}
-use Rattle.raft_state.specs.declared.ids.Vote.{Vote}
-use Rattle.raft_state.specs.declared.membership.Members.{Members}
-use Rattle.raft_state.specs.Order.{vote_cmp}
-use Rattle.raft_state.specs.Same.{nat_same}
-use Rattle.raft_state.proofs.Orders.{is_equal}
-use Rattle.raft_command.specs.declared.config.EngineConfig.{EngineConfig}
-use Rattle.raft_command.specs.Message.{is_granted_to}
-use Rattle.raft_steps.specs.Engine.{handle_vote_resp, take_grant, take_rejection}
-use Rattle.raft_steps.specs.Invariants.{CandidateFits, CandidateIsCurrent, IsSound}
-use Rattle.raft_steps.specs.Refusals.{refusals_of_vote_resp}
-use Rattle.raft_steps.proofs.KeptEngine.{handle_vote_resp_is_sound}
-use Rattle.raft_steps.proofs.Leads.{vote_same}
-use Rattle.raft_store.specs.Entries.{entry_meaning}
-use Rattle.raft_store.specs.Types.{WorldCandidate, WorldMachine, WorldStore}
+use Rattle.raft_node.specs.raft_state.declared.ids.Vote.{Vote}
+use Rattle.raft_node.specs.raft_state.declared.membership.Members.{Members}
+use Rattle.raft_node.specs.raft_state.Order.{vote_cmp}
+use Rattle.raft_node.specs.raft_state.Same.{nat_same}
+use Rattle.raft_node.proofs.raft_state_proofs.Orders.{is_equal}
+use Rattle.raft_node.specs.raft_command.declared.config.EngineConfig.{EngineConfig}
+use Rattle.raft_node.specs.raft_command.Message.{is_granted_to}
+use Rattle.raft_node.specs.raft_steps.Engine.{handle_vote_resp, take_grant, take_rejection}
+use Rattle.raft_node.specs.raft_steps.Invariants.{CandidateFits, CandidateIsCurrent, IsSound}
+use Rattle.raft_node.specs.raft_steps.Refusals.{refusals_of_vote_resp}
+use Rattle.raft_node.proofs.raft_steps_proofs.KeptEngine.{handle_vote_resp_is_sound}
+use Rattle.raft_node.proofs.raft_steps_proofs.Leads.{vote_same}
+use Rattle.raft_node.specs.raft_store.Entries.{entry_meaning}
+use Rattle.raft_node.specs.raft_store.Types.{WorldCandidate, WorldMachine, WorldStore}
 use Rattle.proof_mirror.proofs.Starting.{sound_order}
-use Rattle.raft_calls.specs.declared.message.Body.{Body}
-use Rattle.raft_calls.specs.declared.message.Body.TheVariants as body
-use Rattle.raft_calls.specs.declared.message.Message.{Message}
+use Rattle.raft_node.specs.raft_calls.declared.message.Body.{Body}
+use Rattle.raft_node.specs.raft_calls.declared.message.Body.TheVariants as body
+use Rattle.raft_node.specs.raft_calls.declared.message.Message.{Message}
 use Rattle.raft_node.specs.declared.node.Turn.{Turn}
-use Rattle.raft_calls.specs.Feeds.{own_grant}
+use Rattle.raft_node.specs.raft_calls.Feeds.{own_grant}
 use Rattle.proof_deeds.specs.ElectionDeeds.{ElectionsDone}
 use Rattle.proof_deeds.specs.Follows.{BodyIs}
 use Rattle.proof_deeds.specs.Images.{Ideal, setup_of}

@@ -4,35 +4,35 @@ use Rattle.std.specs.Prelude.{Result, Err, if◌then◌else◌}
 use Rattle.std.specs.Ordering.{nat_cmp}
 use Rattle.std.specs.Result.{is_ok}
 use Rattle.std.proofs.lemmas.Cmp.{nat_cmp_total}
-use Rattle.raft_state.specs.declared.ids.LogId.{LogId}
-use Rattle.raft_state.specs.declared.ids.Vote.{Vote}
-use Rattle.raft_state.specs.declared.membership.Members.{Members}
-use Rattle.raft_state.specs.declared.policy.RejectAppendEntries.{RejectAppendEntries}
-use Rattle.raft_state.specs.declared.policy.RejectAppendEntries.TheVariants.{ByVote}
-use Rattle.raft_state.specs.Same.{nat_same}
-use Rattle.raft_error.specs.declared.error.EngineError.{EngineError}
-use Rattle.raft_error.specs.declared.error.EngineError.TheVariants.{CommittedNotHeld}
-use Rattle.raft_error.specs.Number.{number_of}
-use Rattle.raft_command.specs.declared.config.EngineConfig.{EngineConfig}
-use Rattle.raft_command.specs.declared.message.VoteRequest.{VoteRequest}
-use Rattle.raft_command.specs.declared.message.VoteResponse.{VoteResponse}
-use Rattle.raft_command.specs.Message.{append_response}
-use Rattle.raft_steps.specs.Refusals.{refusals_of_elect, refusals_of_initialize, refusals_of_vote_resp}
-use Rattle.raft_steps.specs.Conditions.{IsFollowing}
-use Rattle.raft_steps.specs.Engine.{elect, initialize, handle_vote_resp}
-use Rattle.raft_steps.specs.FollowingHandler.{commit_target, consecutive_answer, holds_previous}
-use Rattle.raft_steps.specs.Parts.{Core, on_core}
-use Rattle.raft_steps.specs.RequestRefusals.{refusals_of_append, refusals_of_commit, refusals_of_follow, refusals_of_vote_req, is_missing}
-use Rattle.raft_steps.specs.Requests.{append_answer, append_entries, follow, handle_append_entries, handle_commit_entries, handle_vote_req, replied, vote_req_answer}
-use Rattle.raft_steps.specs.VoteHandler.{rejects_vote, update_vote}
-use Rattle.raft_steps.proofs.KeptEngine.{handle_vote_resp_is_sound}
-use Rattle.raft_steps.proofs.KeptFollow.{heard_case, not_own}
-use Rattle.raft_steps.proofs.Marks.{append_marks, consecutive_marks}
-use Rattle.raft_steps.proofs.Unrefused.{neither, test_fails}
-use Rattle.raft_store.specs.declared.config.WorldConfig.{WorldConfig}
-use Rattle.raft_store.specs.declared.entry.Entry.{Entry}
-use Rattle.raft_store.specs.Entries.{entry_meaning}
-use Rattle.raft_store.specs.Types.{WorldCommand, WorldMachine, WorldStore, EngineView}
+use Rattle.raft_node.specs.raft_state.declared.ids.LogId.{LogId}
+use Rattle.raft_node.specs.raft_state.declared.ids.Vote.{Vote}
+use Rattle.raft_node.specs.raft_state.declared.membership.Members.{Members}
+use Rattle.raft_node.specs.raft_state.declared.policy.RejectAppendEntries.{RejectAppendEntries}
+use Rattle.raft_node.specs.raft_state.declared.policy.RejectAppendEntries.TheVariants.{ByVote}
+use Rattle.raft_node.specs.raft_state.Same.{nat_same}
+use Rattle.raft_node.specs.raft_error.declared.error.EngineError.{EngineError}
+use Rattle.raft_node.specs.raft_error.declared.error.EngineError.TheVariants.{CommittedNotHeld}
+use Rattle.raft_node.specs.raft_error.Number.{number_of}
+use Rattle.raft_node.specs.raft_command.declared.config.EngineConfig.{EngineConfig}
+use Rattle.raft_node.specs.raft_command.declared.message.VoteRequest.{VoteRequest}
+use Rattle.raft_node.specs.raft_command.declared.message.VoteResponse.{VoteResponse}
+use Rattle.raft_node.specs.raft_command.Message.{append_response}
+use Rattle.raft_node.specs.raft_steps.Refusals.{refusals_of_elect, refusals_of_initialize, refusals_of_vote_resp}
+use Rattle.raft_node.specs.raft_steps.Conditions.{IsFollowing}
+use Rattle.raft_node.specs.raft_steps.Engine.{elect, initialize, handle_vote_resp}
+use Rattle.raft_node.specs.raft_steps.FollowingHandler.{commit_target, consecutive_answer, holds_previous}
+use Rattle.raft_node.specs.raft_steps.Parts.{Core, on_core}
+use Rattle.raft_node.specs.raft_steps.RequestRefusals.{refusals_of_append, refusals_of_commit, refusals_of_follow, refusals_of_vote_req, is_missing}
+use Rattle.raft_node.specs.raft_steps.Requests.{append_answer, append_entries, follow, handle_append_entries, handle_commit_entries, handle_vote_req, replied, vote_req_answer}
+use Rattle.raft_node.specs.raft_steps.VoteHandler.{rejects_vote, update_vote}
+use Rattle.raft_node.proofs.raft_steps_proofs.KeptEngine.{handle_vote_resp_is_sound}
+use Rattle.raft_node.proofs.raft_steps_proofs.KeptFollow.{heard_case, not_own}
+use Rattle.raft_node.proofs.raft_steps_proofs.Marks.{append_marks, consecutive_marks}
+use Rattle.raft_node.proofs.raft_steps_proofs.Unrefused.{neither, test_fails}
+use Rattle.raft_node.specs.raft_store.declared.config.WorldConfig.{WorldConfig}
+use Rattle.raft_node.specs.raft_store.declared.entry.Entry.{Entry}
+use Rattle.raft_node.specs.raft_store.Entries.{entry_meaning}
+use Rattle.raft_node.specs.raft_store.Types.{WorldCommand, WorldMachine, WorldStore, EngineView}
 use Rattle.proof_mirror.specs.Ready.{Awaits, InStep, Ordered, PendingIn, Shaped}
 use Rattle.proof_mirror.proofs.Elections.{pending_elect, pending_vote_resp}
 use Rattle.proof_mirror.proofs.Following.{pending_handle_append, pending_handle_commit}
@@ -42,16 +42,16 @@ use Rattle.proof_mirror.proofs.Sound.{held_commit, machine_asks, machine_knows}
 use Rattle.proof_mirror.proofs.Starting.{pending_initialize, pending_vote_req_passed, sound_order}
 use Rattle.raft_node.specs.declared.act.Act.{Act}
 use Rattle.raft_node.specs.declared.act.Act.TheVariants.{ChangeLearners, ChangeMembership, Elect, Fail, FinishSnapshot, Initialize, Propose, Read, Restart, SendHeartbeat, StepDown, Stop, Take, TriggerPurge, TriggerSnapshot}
-use Rattle.raft_calls.specs.declared.message.Body.{Body}
-use Rattle.raft_calls.specs.declared.message.Body.TheVariants as body
-use Rattle.raft_calls.specs.declared.message.Message.{Message}
-use Rattle.raft_calls.specs.declared.message.Origin.{Origin}
+use Rattle.raft_node.specs.raft_calls.declared.message.Body.{Body}
+use Rattle.raft_node.specs.raft_calls.declared.message.Body.TheVariants as body
+use Rattle.raft_node.specs.raft_calls.declared.message.Message.{Message}
+use Rattle.raft_node.specs.raft_calls.declared.message.Origin.{Origin}
 use Rattle.raft_node.specs.declared.node.Turn.{Turn}
-use Rattle.raft_calls.specs.Deliveries.{answered, appended, deliver, reply_token, take_append, take_commit, take_vote_reply, take_vote_request, vote_replied, vote_reply, vote_requested, with_machine, skip_delivery}
-use Rattle.raft_calls.specs.Elections.{elected, first_entry, initialized}
-use Rattle.raft_calls.specs.Held.{AllHeld, IsReady, IsResting}
+use Rattle.raft_node.specs.raft_calls.Deliveries.{answered, appended, deliver, reply_token, take_append, take_commit, take_vote_reply, take_vote_request, vote_replied, vote_reply, vote_requested, with_machine, skip_delivery}
+use Rattle.raft_node.specs.raft_calls.Elections.{elected, first_entry, initialized}
+use Rattle.raft_node.specs.raft_calls.Held.{AllHeld, IsReady, IsResting}
 use Rattle.raft_node.specs.Net.{NodeView}
-use Rattle.raft_calls.proofs.Ready.{appended_follows, appended_ready, engine_after}
+use Rattle.raft_node.proofs.raft_calls_proofs.Ready.{appended_follows, appended_ready, engine_after}
 use Rattle.proof_deeds.specs.Chains.{Carried, Reached}
 use Rattle.proof_deeds.specs.Follows.{MessageIs, StoreIs}
 use Rattle.proof_deeds.specs.Images.{Ideal, setup_of}
@@ -61,7 +61,7 @@ use Rattle.proof_deeds.proofs.Calls.{CallLaws, WorldState}
 use Rattle.proof_deeds.proofs.Drains.{EngineWorks, stands, takes}
 use Rattle.proof_deeds.proofs.LeaderWorks.{append_reply_works, snapshot_reply_works}
 use Rattle.proof_deeds.proofs.SnapshotWorks.{installed_works}
-use Rattle.raft_steps.proofs.Kept.{either}
+use Rattle.raft_node.proofs.raft_steps_proofs.Kept.{either}
 
 abbrev pub WorldCore : Type 0
 WorldCore = Core WorldConfig ℕ (Unit {0}) Entry ℕ ℕ (List Entry)

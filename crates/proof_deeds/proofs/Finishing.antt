@@ -4,23 +4,23 @@ use Rattle.std.specs.Prelude.{nat_lt}
 use Rattle.std.specs.Ordering.{nat_cmp}
 use Rattle.std.proofs.lemmas.Bool.{cond_both, ltb-false, ltb-true}
 use Rattle.std.proofs.lemmas.Cmp.{nat_cmp_total}
-use Rattle.raft_state.specs.declared.membership.Members.{Members}
-use Rattle.raft_state.specs.declared.membership.SnapshotMeta.{SnapshotMeta}
-use Rattle.raft_state.specs.Fits.{fits, is_within}
-use Rattle.raft_state.specs.Order.{next}
-use Rattle.raft_state.specs.Same.{nat_same}
-use Rattle.raft_command.specs.declared.config.EngineConfig.{EngineConfig}
-use Rattle.raft_steps.specs.Parts.{with_state}
-use Rattle.raft_steps.specs.SnapshotCalls.{finish_building_snapshot}
-use Rattle.raft_steps.specs.SnapshotHandler.{is_newer_snapshot}
-use Rattle.raft_steps.proofs.KeptPurge.{finished_is_sound}
-use Rattle.raft_store.specs.declared.entry.Entry.{Entry}
-use Rattle.raft_store.specs.Built.{keep_snapshot, meta_of}
-use Rattle.raft_store.specs.Entries.{entry_meaning}
-use Rattle.raft_store.specs.Mirror.{Tells}
-use Rattle.raft_store.specs.Store as store
-use Rattle.raft_store.specs.Types.{WorldCommand, WorldMachine, WorldStore}
-use Rattle.raft_store.proofs.Memberships.{meta_tells}
+use Rattle.raft_node.specs.raft_state.declared.membership.Members.{Members}
+use Rattle.raft_node.specs.raft_state.declared.membership.SnapshotMeta.{SnapshotMeta}
+use Rattle.raft_node.specs.raft_state.Fits.{fits, is_within}
+use Rattle.raft_node.specs.raft_state.Order.{next}
+use Rattle.raft_node.specs.raft_state.Same.{nat_same}
+use Rattle.raft_node.specs.raft_command.declared.config.EngineConfig.{EngineConfig}
+use Rattle.raft_node.specs.raft_steps.Parts.{with_state}
+use Rattle.raft_node.specs.raft_steps.SnapshotCalls.{finish_building_snapshot}
+use Rattle.raft_node.specs.raft_steps.SnapshotHandler.{is_newer_snapshot}
+use Rattle.raft_node.proofs.raft_steps_proofs.KeptPurge.{finished_is_sound}
+use Rattle.raft_node.specs.raft_store.declared.entry.Entry.{Entry}
+use Rattle.raft_node.specs.raft_store.Built.{keep_snapshot, meta_of}
+use Rattle.raft_node.specs.raft_store.Entries.{entry_meaning}
+use Rattle.raft_node.specs.raft_store.Mirror.{Tells}
+use Rattle.raft_node.specs.raft_store.Store as store
+use Rattle.raft_node.specs.raft_store.Types.{WorldCommand, WorldMachine, WorldStore}
+use Rattle.raft_node.proofs.raft_store_proofs.Memberships.{meta_tells}
 use Rattle.proof_mirror.specs.Ready.{Awaits, InStep, Ordered, Pending, PendingIn, Shaped}
 use Rattle.proof_mirror.proofs.Purging.{pending_finish, pending_older}
 use Rattle.proof_mirror.proofs.Restarting.{built_ordered, step_built}

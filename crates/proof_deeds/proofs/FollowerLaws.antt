@@ -1,6 +1,6 @@
 -- The laws of followers, of a node that stands.
 use Rattle.std.proofs.Common.{ℕ}
-use Rattle.raft_state.specs.declared.membership.Members.{Members}
+use Rattle.raft_node.specs.raft_state.declared.membership.Members.{Members}
 use Rattle.proof_deeds.specs.FollowerDeeds.{FollowersDone}
 use Rattle.proof_deeds.proofs.AppendCommits.{carried_commit}
 use Rattle.proof_deeds.proofs.AppendLaws.{carried_append}

@@ -4,42 +4,42 @@ use Rattle.std.specs.Prelude.{if◌then◌else◌}
 use Rattle.std.specs.List.{AllByRecursion}
 use Rattle.std.specs.Ordering.{is_eq, nat_cmp}
 use Rattle.std.proofs.lemmas.Bool.{cond_both}
-use Rattle.raft_state.specs.declared.ids.LeaderId.{LeaderId}
-use Rattle.raft_state.specs.declared.ids.LogId.{LogId}
-use Rattle.raft_state.specs.declared.membership.StoredMembership.{StoredMembership}
-use Rattle.raft_state.specs.Log.{at}
-use Rattle.raft_state.specs.Order.{next, leader_id_cmp}
-use Rattle.raft_state.specs.Policy.{should_snapshot}
-use Rattle.raft_state.specs.Same.{nat_same, leader_id_same}
-use Rattle.raft_state.specs.Sorted.{has_id}
-use Rattle.raft_state.specs.State.{commit, commits, settle}
-use Rattle.raft_state.proofs.Orders.{is_equal}
-use Rattle.raft_progress.specs.Quorum.{is_quorum}
-use Rattle.raft_command.specs.Push.{ordered, committed_upto}
-use Rattle.raft_command.specs.Queue.{queued}
-use Rattle.raft_command.specs.declared.command.Command.TheVariants as command
-use Rattle.raft_command.specs.declared.config.EngineConfig.{EngineConfig}
-use Rattle.raft_command.specs.declared.sm.CommandPayload.TheVariants as payload
-use Rattle.raft_steps.specs.Commit.{commit_by}
-use Rattle.raft_steps.specs.Invariants.{IsSoundLed}
-use Rattle.raft_proposer.specs.Leader.{granted_id}
-use Rattle.raft_steps.specs.Parts.{under}
-use Rattle.raft_steps.specs.ReplicationHandler.{try_commit_quorum_accepted, commit_granted}
-use Rattle.raft_steps.specs.SnapshotHandler.{trigger_snapshot, snapshot_where_due}
+use Rattle.raft_node.specs.raft_state.declared.ids.LeaderId.{LeaderId}
+use Rattle.raft_node.specs.raft_state.declared.ids.LogId.{LogId}
+use Rattle.raft_node.specs.raft_state.declared.membership.StoredMembership.{StoredMembership}
+use Rattle.raft_node.specs.raft_state.Log.{at}
+use Rattle.raft_node.specs.raft_state.Order.{next, leader_id_cmp}
+use Rattle.raft_node.specs.raft_state.Policy.{should_snapshot}
+use Rattle.raft_node.specs.raft_state.Same.{nat_same, leader_id_same}
+use Rattle.raft_node.specs.raft_state.Sorted.{has_id}
+use Rattle.raft_node.specs.raft_state.State.{commit, commits, settle}
+use Rattle.raft_node.proofs.raft_state_proofs.Orders.{is_equal}
+use Rattle.raft_node.specs.raft_progress.Quorum.{is_quorum}
+use Rattle.raft_node.specs.raft_command.Push.{ordered, committed_upto}
+use Rattle.raft_node.specs.raft_command.Queue.{queued}
+use Rattle.raft_node.specs.raft_command.declared.command.Command.TheVariants as command
+use Rattle.raft_node.specs.raft_command.declared.config.EngineConfig.{EngineConfig}
+use Rattle.raft_node.specs.raft_command.declared.sm.CommandPayload.TheVariants as payload
+use Rattle.raft_node.specs.raft_steps.Commit.{commit_by}
+use Rattle.raft_node.specs.raft_steps.Invariants.{IsSoundLed}
+use Rattle.raft_node.specs.raft_proposer.Leader.{granted_id}
+use Rattle.raft_node.specs.raft_steps.Parts.{under}
+use Rattle.raft_node.specs.raft_steps.ReplicationHandler.{try_commit_quorum_accepted, commit_granted}
+use Rattle.raft_node.specs.raft_steps.SnapshotHandler.{trigger_snapshot, snapshot_where_due}
 use Rattle.proof_agreement.specs.Machine.{Setup, Includes}
 use Rattle.proof_agreement.specs.Stores.{AppendRequest, whole, entry_at}
 use Rattle.proof_agreement.specs.Deeds.{CommitByQuorum, LeaderCommit, MayCommitAsLeader, heartbeat, with_committed, does}
-use Rattle.raft_store.specs.declared.entry.Entry.{Entry}
-use Rattle.raft_store.specs.Entries.{entry_meaning}
-use Rattle.raft_store.specs.Store as store
-use Rattle.raft_store.specs.Store.{due}
-use Rattle.raft_store.specs.Types.{WorldStore, WorldCommand, WorldLeader}
-use Rattle.raft_store.proofs.Lists.{Run}
+use Rattle.raft_node.specs.raft_store.declared.entry.Entry.{Entry}
+use Rattle.raft_node.specs.raft_store.Entries.{entry_meaning}
+use Rattle.raft_node.specs.raft_store.Store as store
+use Rattle.raft_node.specs.raft_store.Store.{due}
+use Rattle.raft_node.specs.raft_store.Types.{WorldStore, WorldCommand, WorldLeader}
+use Rattle.raft_node.proofs.raft_store_proofs.Lists.{Run}
 use Rattle.proof_mirror.specs.Ready.{InStep}
 use Rattle.proof_mirror.proofs.Commits.{settled_parts, step_commit}
 use Rattle.proof_mirror.proofs.Shape.{shape_of, whole_run, applied_length}
 use Rattle.raft_node.specs.declared.node.Turn.{Turn}
-use Rattle.raft_calls.specs.Feeds.{WorldLed}
+use Rattle.raft_node.specs.raft_calls.Feeds.{WorldLed}
 use Rattle.proof_deeds.specs.Chains.{stored, left_by, Done, Carried}
 use Rattle.proof_deeds.specs.Follows.{StoreIs}
 use Rattle.proof_deeds.specs.Images.{Ideal, IdealStore, IsNamed, number, image, images}

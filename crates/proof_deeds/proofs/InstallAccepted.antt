@@ -5,34 +5,34 @@ use Rattle.std.specs.Ordering.{bool_cmp, is_eq, is_lt, is_le, nat_cmp, ordering_
 use Rattle.std.proofs.lemmas.Bool.{cases_lt, lt-ltb, and_parts, leb-true, ltb-true}
 use Rattle.std.proofs.lemmas.Bool.Decides.{nat_tests}
 use Rattle.std.proofs.lemmas.Cmp.{nat_cmp_total}
-use Rattle.raft_state.specs.declared.ids.LeaderId.{LeaderId}
-use Rattle.raft_state.specs.declared.ids.LogId.{LogId}
-use Rattle.raft_state.specs.declared.membership.Members.{Members}
-use Rattle.raft_state.specs.Fits.{fits, is_within, is_below}
-use Rattle.raft_state.specs.Invariants.{AcceptedRecord, first_index}
-use Rattle.raft_state.specs.Log.{at}
-use Rattle.raft_state.specs.Order.{next, last_id_cmp, leader_id_cmp}
-use Rattle.raft_state.specs.Same.{nat_same, found_is}
-use Rattle.raft_state.specs.State.{accepted, accepted_under, has_log_id, is_found}
-use Rattle.raft_state.proofs.Orders.{last_total, le_lt, or_cases, within_le}
-use Rattle.raft_state.proofs.StateLaws.{is_found_at}
-use Rattle.raft_command.specs.declared.config.EngineConfig.{EngineConfig}
-use Rattle.raft_steps.specs.InstallRefusals.{falls_short}
-use Rattle.raft_steps.specs.VoteHandler.{rejects_vote}
+use Rattle.raft_node.specs.raft_state.declared.ids.LeaderId.{LeaderId}
+use Rattle.raft_node.specs.raft_state.declared.ids.LogId.{LogId}
+use Rattle.raft_node.specs.raft_state.declared.membership.Members.{Members}
+use Rattle.raft_node.specs.raft_state.Fits.{fits, is_within, is_below}
+use Rattle.raft_node.specs.raft_state.Invariants.{AcceptedRecord, first_index}
+use Rattle.raft_node.specs.raft_state.Log.{at}
+use Rattle.raft_node.specs.raft_state.Order.{next, last_id_cmp, leader_id_cmp}
+use Rattle.raft_node.specs.raft_state.Same.{nat_same, found_is}
+use Rattle.raft_node.specs.raft_state.State.{accepted, accepted_under, has_log_id, is_found}
+use Rattle.raft_node.proofs.raft_state_proofs.Orders.{last_total, le_lt, or_cases, within_le}
+use Rattle.raft_node.proofs.raft_state_proofs.StateLaws.{is_found_at}
+use Rattle.raft_node.specs.raft_command.declared.config.EngineConfig.{EngineConfig}
+use Rattle.raft_node.specs.raft_steps.InstallRefusals.{falls_short}
+use Rattle.raft_node.specs.raft_steps.VoteHandler.{rejects_vote}
 use Rattle.proof_agreement.specs.Machine.{Agree}
 use Rattle.proof_agreement.specs.Machine as machine
 use Rattle.proof_agreement.specs.Stores.{Append, whole, entry_at, of_list}
 use Rattle.proof_agreement.specs.Deeds.{MayAccept, SnapshotFromLeader}
 use Rattle.proof_agreement.proofs.StoresBridge.{snapshot_rises, snapshot_below_accepted, snapshot_past_accepted}
-use Rattle.raft_store.specs.declared.entry.Entry.{Entry}
-use Rattle.raft_store.specs.Entries.{entry_meaning}
-use Rattle.raft_store.specs.Types.{WorldStore, WorldSnapshot, WorldMachine}
+use Rattle.raft_node.specs.raft_store.declared.entry.Entry.{Entry}
+use Rattle.raft_node.specs.raft_store.Entries.{entry_meaning}
+use Rattle.raft_node.specs.raft_store.Types.{WorldStore, WorldSnapshot, WorldMachine}
 use Rattle.proof_mirror.specs.Ready.{InStep}
 use Rattle.proof_mirror.proofs.Places.{at_index, end_at_none, first_below, next_last_le}
 use Rattle.proof_mirror.proofs.Sound.{fits_within}
-use Rattle.raft_calls.specs.declared.message.Body.TheVariants as body
-use Rattle.raft_calls.specs.declared.message.Message.{Message}
-use Rattle.raft_calls.specs.declared.message.Origin.{Origin}
+use Rattle.raft_node.specs.raft_calls.declared.message.Body.TheVariants as body
+use Rattle.raft_node.specs.raft_calls.declared.message.Message.{Message}
+use Rattle.raft_node.specs.raft_calls.declared.message.Origin.{Origin}
 use Rattle.raft_node.specs.declared.node.Turn.{Turn}
 use Rattle.proof_deeds.specs.Chains.{Reached, left_by}
 use Rattle.proof_deeds.specs.Follows.{SnapshotSent}

@@ -4,31 +4,31 @@ use Rattle.std.specs.Prelude.{IfSome, slice_get, if◌then◌else◌}
 use Rattle.std.specs.Ordering.{is_eq, is_gt, nat_cmp}
 use Rattle.std.proofs.lemmas.Bool.{cond_both}
 use Rattle.std.proofs.lemmas.List.{length-map}
-use Rattle.raft_state.specs.declared.ids.LeaderId.{LeaderId}
-use Rattle.raft_state.specs.declared.ids.LogId.{LogId}
-use Rattle.raft_state.specs.declared.membership.StoredMembership.{StoredMembership}
-use Rattle.raft_state.specs.Log.{last, at}
-use Rattle.raft_state.specs.LogLaws.{at-run}
-use Rattle.raft_state.specs.Order.{next, last_id_cmp, leader_id_cmp}
-use Rattle.raft_state.specs.Same.{nat_same}
-use Rattle.raft_state.specs.State.{accept, accepted, accepted_under, purge}
-use Rattle.raft_command.specs.Push.{with_command, ordered}
-use Rattle.raft_command.specs.declared.command.Command.TheVariants as command
-use Rattle.raft_command.specs.declared.config.EngineConfig.{EngineConfig}
-use Rattle.raft_command.specs.declared.sm.CommandPayload.TheVariants as payload
-use Rattle.raft_steps.specs.FollowingHandler.{truncate_logs}
-use Rattle.raft_steps.specs.Installs.{has_other_at, replaces_log, with_memberships_of, held_upto, truncate_contradicted, install_upto}
-use Rattle.raft_steps.specs.LogHandler.{purge_log}
-use Rattle.raft_steps.specs.Parts.{with_state}
-use Rattle.raft_steps.specs.ServerStateHandler.{update_role}
-use Rattle.raft_steps.proofs.KeptAppend.{truncate_case}
+use Rattle.raft_node.specs.raft_state.declared.ids.LeaderId.{LeaderId}
+use Rattle.raft_node.specs.raft_state.declared.ids.LogId.{LogId}
+use Rattle.raft_node.specs.raft_state.declared.membership.StoredMembership.{StoredMembership}
+use Rattle.raft_node.specs.raft_state.Log.{last, at}
+use Rattle.raft_node.specs.raft_state.LogLaws.{at-run}
+use Rattle.raft_node.specs.raft_state.Order.{next, last_id_cmp, leader_id_cmp}
+use Rattle.raft_node.specs.raft_state.Same.{nat_same}
+use Rattle.raft_node.specs.raft_state.State.{accept, accepted, accepted_under, purge}
+use Rattle.raft_node.specs.raft_command.Push.{with_command, ordered}
+use Rattle.raft_node.specs.raft_command.declared.command.Command.TheVariants as command
+use Rattle.raft_node.specs.raft_command.declared.config.EngineConfig.{EngineConfig}
+use Rattle.raft_node.specs.raft_command.declared.sm.CommandPayload.TheVariants as payload
+use Rattle.raft_node.specs.raft_steps.FollowingHandler.{truncate_logs}
+use Rattle.raft_node.specs.raft_steps.Installs.{has_other_at, replaces_log, with_memberships_of, held_upto, truncate_contradicted, install_upto}
+use Rattle.raft_node.specs.raft_steps.LogHandler.{purge_log}
+use Rattle.raft_node.specs.raft_steps.Parts.{with_state}
+use Rattle.raft_node.specs.raft_steps.ServerStateHandler.{update_role}
+use Rattle.raft_node.proofs.raft_steps_proofs.KeptAppend.{truncate_case}
 use Rattle.proof_agreement.specs.Machine.{Setup, Includes}
 use Rattle.proof_agreement.specs.Stores.{Append, Session, SnapshotRequest, entry_at}
 use Rattle.proof_agreement.specs.Deeds.{Purge, MayAccept, does}
-use Rattle.raft_store.specs.declared.entry.Entry.{Entry}
-use Rattle.raft_store.specs.Entries.{entry_meaning}
-use Rattle.raft_store.specs.Types.{WorldStore, WorldSnapshot, WorldCommand}
-use Rattle.raft_store.proofs.Lists.{next_last_0}
+use Rattle.raft_node.specs.raft_store.declared.entry.Entry.{Entry}
+use Rattle.raft_node.specs.raft_store.Entries.{entry_meaning}
+use Rattle.raft_node.specs.raft_store.Types.{WorldStore, WorldSnapshot, WorldCommand}
+use Rattle.raft_node.proofs.raft_store_proofs.Lists.{next_last_0}
 use Rattle.proof_mirror.specs.Ready.{Shaped, MayPurge}
 use Rattle.proof_mirror.proofs.Installing.{InstallFits, pending_install}
 use Rattle.proof_mirror.proofs.Shape.{length_ids}

@@ -5,22 +5,22 @@ use Rattle.std.specs.Prelude.{nat_lt, ◌&&◌}
 use Rattle.std.specs.Ordering.{is_gt, nat_cmp, ordering_then}
 use Rattle.std.proofs.lemmas.Bool.{ltb-true}
 use Rattle.std.proofs.lemmas.Bool.Decides.{nat_tests}
-use Rattle.raft_state.specs.declared.ids.LeaderId.{LeaderId}
-use Rattle.raft_state.specs.declared.ids.LogId.{LogId}
-use Rattle.raft_state.specs.declared.membership.Members.{Members}
-use Rattle.raft_state.specs.Order.{next, last_id_cmp, leader_id_cmp}
-use Rattle.raft_command.specs.declared.config.EngineConfig.{EngineConfig}
-use Rattle.raft_steps.specs.RequestRefusals.{is_above_vote, is_above_committed}
+use Rattle.raft_node.specs.raft_state.declared.ids.LeaderId.{LeaderId}
+use Rattle.raft_node.specs.raft_state.declared.ids.LogId.{LogId}
+use Rattle.raft_node.specs.raft_state.declared.membership.Members.{Members}
+use Rattle.raft_node.specs.raft_state.Order.{next, last_id_cmp, leader_id_cmp}
+use Rattle.raft_node.specs.raft_command.declared.config.EngineConfig.{EngineConfig}
+use Rattle.raft_node.specs.raft_steps.RequestRefusals.{is_above_vote, is_above_committed}
 use Rattle.proof_agreement.specs.Machine.{AtOrBelow, last_leader}
 use Rattle.proof_agreement.specs.Machine as machine
 use Rattle.proof_agreement.specs.Stores.{whole, entry_at, last_leader_of}
 use Rattle.proof_agreement.proofs.StoresBridge.{snapshot_low, snapshot_not_above}
-use Rattle.raft_store.specs.Entries.{entry_meaning}
-use Rattle.raft_store.specs.Types.{WorldStore, WorldSnapshot, WorldMachine}
+use Rattle.raft_node.specs.raft_store.Entries.{entry_meaning}
+use Rattle.raft_node.specs.raft_store.Types.{WorldStore, WorldSnapshot, WorldMachine}
 use Rattle.proof_mirror.specs.Ready.{InStep}
-use Rattle.raft_calls.specs.declared.message.Body.TheVariants as body
-use Rattle.raft_calls.specs.declared.message.Message.{Message}
-use Rattle.raft_calls.specs.declared.message.Origin.{Origin}
+use Rattle.raft_node.specs.raft_calls.declared.message.Body.TheVariants as body
+use Rattle.raft_node.specs.raft_calls.declared.message.Message.{Message}
+use Rattle.raft_node.specs.raft_calls.declared.message.Origin.{Origin}
 use Rattle.raft_node.specs.declared.node.Turn.{Turn}
 use Rattle.proof_deeds.specs.Chains.{Reached, left_by}
 use Rattle.proof_deeds.specs.Follows.{SnapshotSent}

@@ -8,36 +8,36 @@ use Rattle.std.specs.declared.cmp.Ordering.TheVariants.{Less, Equal, Greater}
 use Rattle.std.proofs.lemmas.Bool.{both_ways, cond_both}
 use Rattle.std.proofs.lemmas.Cmp.{nat_cmp_total}
 use Rattle.std.proofs.lemmas.List.{length-map}
-use Rattle.raft_state.specs.declared.ids.LeaderId.{LeaderId}
-use Rattle.raft_state.specs.declared.ids.LogId.{LogId}
-use Rattle.raft_state.specs.declared.ids.Vote.{Vote}
-use Rattle.raft_state.specs.declared.membership.Members.{Members}
-use Rattle.raft_state.specs.Fits.{fits, is_within}
-use Rattle.raft_state.specs.Invariants.{IsSoundState}
-use Rattle.raft_state.specs.Log.{last, at}
-use Rattle.raft_state.specs.LogLaws.{IsRun, at-run}
-use Rattle.raft_state.specs.Order.{next, last_id_cmp, vote_cmp}
-use Rattle.raft_state.specs.Same.{nat_same}
-use Rattle.raft_state.proofs.LogLists.{fits_has, follow_run}
-use Rattle.raft_state.proofs.Orders.{last_total, vote_total, le_of_not_gt, le_trans, lt_not_ge, within_le, within_trans}
-use Rattle.raft_command.specs.declared.command.Command.TheVariants as command
-use Rattle.raft_command.specs.declared.config.EngineConfig.{EngineConfig}
-use Rattle.raft_command.specs.declared.message.Token.{Token}
-use Rattle.raft_command.specs.declared.respond.Respond.TheVariants as respond
-use Rattle.raft_steps.specs.InstallRefusals.{refusals_of_fit, refusals_of_install}
-use Rattle.raft_steps.specs.Installs.{installs, install_upto, install_full_snapshot, install_condition, reply_install, install_and_reply, handle_install_full_snapshot}
-use Rattle.raft_steps.specs.Parts.{on_core}
-use Rattle.raft_steps.specs.VoteHandler.{rejects_vote, update_vote}
-use Rattle.raft_steps.proofs.KeptFollow.{heard_case, not_own}
+use Rattle.raft_node.specs.raft_state.declared.ids.LeaderId.{LeaderId}
+use Rattle.raft_node.specs.raft_state.declared.ids.LogId.{LogId}
+use Rattle.raft_node.specs.raft_state.declared.ids.Vote.{Vote}
+use Rattle.raft_node.specs.raft_state.declared.membership.Members.{Members}
+use Rattle.raft_node.specs.raft_state.Fits.{fits, is_within}
+use Rattle.raft_node.specs.raft_state.Invariants.{IsSoundState}
+use Rattle.raft_node.specs.raft_state.Log.{last, at}
+use Rattle.raft_node.specs.raft_state.LogLaws.{IsRun, at-run}
+use Rattle.raft_node.specs.raft_state.Order.{next, last_id_cmp, vote_cmp}
+use Rattle.raft_node.specs.raft_state.Same.{nat_same}
+use Rattle.raft_node.proofs.raft_state_proofs.LogLists.{fits_has, follow_run}
+use Rattle.raft_node.proofs.raft_state_proofs.Orders.{last_total, vote_total, le_of_not_gt, le_trans, lt_not_ge, within_le, within_trans}
+use Rattle.raft_node.specs.raft_command.declared.command.Command.TheVariants as command
+use Rattle.raft_node.specs.raft_command.declared.config.EngineConfig.{EngineConfig}
+use Rattle.raft_node.specs.raft_command.declared.message.Token.{Token}
+use Rattle.raft_node.specs.raft_command.declared.respond.Respond.TheVariants as respond
+use Rattle.raft_node.specs.raft_steps.InstallRefusals.{refusals_of_fit, refusals_of_install}
+use Rattle.raft_node.specs.raft_steps.Installs.{installs, install_upto, install_full_snapshot, install_condition, reply_install, install_and_reply, handle_install_full_snapshot}
+use Rattle.raft_node.specs.raft_steps.Parts.{on_core}
+use Rattle.raft_node.specs.raft_steps.VoteHandler.{rejects_vote, update_vote}
+use Rattle.raft_node.proofs.raft_steps_proofs.KeptFollow.{heard_case, not_own}
 use Rattle.proof_agreement.specs.Machine.{Setup, AtOrBelow, last_leader}
 use Rattle.proof_agreement.specs.Machine as machine
 use Rattle.proof_agreement.specs.Stores.{whole, entry_at, last_leader_of}
 use Rattle.proof_agreement.specs.Deeds.{AcceptSnapshot, does}
 use Rattle.proof_agreement.proofs.StoresBridge.{snapshot_within_committed}
-use Rattle.raft_store.specs.declared.entry.Entry.{Entry}
-use Rattle.raft_store.specs.Entries.{entry_meaning}
-use Rattle.raft_store.specs.Types.{WorldStore, WorldSnapshot, WorldCommand, WorldMachine}
-use Rattle.raft_store.proofs.Lists.{next_last_0}
+use Rattle.raft_node.specs.raft_store.declared.entry.Entry.{Entry}
+use Rattle.raft_node.specs.raft_store.Entries.{entry_meaning}
+use Rattle.raft_node.specs.raft_store.Types.{WorldStore, WorldSnapshot, WorldCommand, WorldMachine}
+use Rattle.raft_node.proofs.raft_store_proofs.Lists.{next_last_0}
 use Rattle.proof_mirror.specs.Ready.{IsStored, InStep, PendingIn}
 use Rattle.proof_mirror.proofs.Elections.{pending_update_vote}
 use Rattle.proof_mirror.proofs.Following.{more_passed, voted_sound}
@@ -46,9 +46,9 @@ use Rattle.proof_mirror.proofs.Orders.{in_order}
 use Rattle.proof_mirror.proofs.Proposes.{TakesId}
 use Rattle.proof_mirror.proofs.Shape.{shaped_of, length_ids}
 use Rattle.proof_mirror.proofs.Starting.{install_fits, pending_install_core}
-use Rattle.raft_calls.specs.declared.message.Body.TheVariants as body
-use Rattle.raft_calls.specs.declared.message.Message.{Message}
-use Rattle.raft_calls.specs.declared.message.Origin.{Origin}
+use Rattle.raft_node.specs.raft_calls.declared.message.Body.TheVariants as body
+use Rattle.raft_node.specs.raft_calls.declared.message.Message.{Message}
+use Rattle.raft_node.specs.raft_calls.declared.message.Origin.{Origin}
 use Rattle.raft_node.specs.declared.node.Turn.{Turn}
 use Rattle.proof_deeds.specs.Chains.{Reached, Unread, left_by, Done, Carried}
 use Rattle.proof_deeds.specs.Follows.{StoreIs, BodyIs, SnapshotSent, VoteTold}

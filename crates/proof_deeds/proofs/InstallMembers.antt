@@ -4,19 +4,19 @@ use Rattle.std.specs.Prelude.{IfSome}
 use Rattle.std.specs.List.{AllByRecursion}
 use Rattle.std.specs.Ordering.{nat_cmp}
 use Rattle.std.proofs.lemmas.Cmp.{nat_cmp_total}
-use Rattle.raft_state.specs.declared.ids.LogId.{LogId}
-use Rattle.raft_state.specs.declared.membership.Members.{Members}
-use Rattle.raft_state.specs.declared.membership.StoredMembership.{StoredMembership}
-use Rattle.raft_state.specs.Fits.{is_within}
-use Rattle.raft_state.specs.Log.{last}
-use Rattle.raft_state.proofs.LogLists.{Has, last_is, follow_run, follow_rise, has_within}
-use Rattle.raft_state.proofs.StateLaws.{within_none}
-use Rattle.raft_state.specs.Same.{nat_same}
-use Rattle.raft_steps.specs.FollowingHandler.{memberships_in}
-use Rattle.raft_store.specs.declared.entry.Entry.{Entry}
-use Rattle.raft_store.specs.Entries.{entry_meaning, members_of}
-use Rattle.raft_store.specs.Mirror.{ends, last_two, none}
-use Rattle.raft_store.specs.Types.{WorldSnapshot}
+use Rattle.raft_node.specs.raft_state.declared.ids.LogId.{LogId}
+use Rattle.raft_node.specs.raft_state.declared.membership.Members.{Members}
+use Rattle.raft_node.specs.raft_state.declared.membership.StoredMembership.{StoredMembership}
+use Rattle.raft_node.specs.raft_state.Fits.{is_within}
+use Rattle.raft_node.specs.raft_state.Log.{last}
+use Rattle.raft_node.proofs.raft_state_proofs.LogLists.{Has, last_is, follow_run, follow_rise, has_within}
+use Rattle.raft_node.proofs.raft_state_proofs.StateLaws.{within_none}
+use Rattle.raft_node.specs.raft_state.Same.{nat_same}
+use Rattle.raft_node.specs.raft_steps.FollowingHandler.{memberships_in}
+use Rattle.raft_node.specs.raft_store.declared.entry.Entry.{Entry}
+use Rattle.raft_node.specs.raft_store.Entries.{entry_meaning, members_of}
+use Rattle.raft_node.specs.raft_store.Mirror.{ends, last_two, none}
+use Rattle.raft_node.specs.raft_store.Types.{WorldSnapshot}
 use Rattle.proof_mirror.specs.Ready.{SnapshotTells}
 
 abbrev Known : List (LogId ℕ) → StoredMembership ℕ (Unit {0}) → Type 0

@@ -7,27 +7,27 @@ use Rattle.std.specs.Option.{option_to_list}
 use Rattle.std.specs.Ordering.{is_eq, is_gt, nat_cmp}
 use Rattle.std.proofs.lemmas.Bool.{cases_lt, le-ltb, lt-ltb, and_parts, not-true}
 use Rattle.std.proofs.lemmas.Cmp.{nat_cmp_total}
-use Rattle.raft_state.specs.declared.ids.LogId.{LogId}
-use Rattle.raft_state.specs.declared.membership.Members.{Members}
-use Rattle.raft_state.specs.Log.{at}
-use Rattle.raft_state.specs.Order.{last_id_cmp, log_id_cmp, next}
-use Rattle.raft_state.specs.Same.{nat_same}
-use Rattle.raft_state.proofs.StateLaws.{is_found_at}
-use Rattle.raft_error.specs.declared.error.EngineError.TheVariants.{IndexEnd, CounterEnd, OwnVote, Spent, VoteNotCommitted}
-use Rattle.raft_command.specs.declared.config.EngineConfig.{EngineConfig}
-use Rattle.raft_steps.specs.Refusals.{is_at_end, is_counter_end, is_spent}
-use Rattle.raft_steps.specs.InstallRefusals.{refusals_of_fit, refusals_of_install, undoes_committed}
-use Rattle.raft_steps.specs.Installs.{has_other_at, installs}
-use Rattle.raft_steps.specs.VoteHandler.{rejects_vote}
+use Rattle.raft_node.specs.raft_state.declared.ids.LogId.{LogId}
+use Rattle.raft_node.specs.raft_state.declared.membership.Members.{Members}
+use Rattle.raft_node.specs.raft_state.Log.{at}
+use Rattle.raft_node.specs.raft_state.Order.{last_id_cmp, log_id_cmp, next}
+use Rattle.raft_node.specs.raft_state.Same.{nat_same}
+use Rattle.raft_node.proofs.raft_state_proofs.StateLaws.{is_found_at}
+use Rattle.raft_node.specs.raft_error.declared.error.EngineError.TheVariants.{IndexEnd, CounterEnd, OwnVote, Spent, VoteNotCommitted}
+use Rattle.raft_node.specs.raft_command.declared.config.EngineConfig.{EngineConfig}
+use Rattle.raft_node.specs.raft_steps.Refusals.{is_at_end, is_counter_end, is_spent}
+use Rattle.raft_node.specs.raft_steps.InstallRefusals.{refusals_of_fit, refusals_of_install, undoes_committed}
+use Rattle.raft_node.specs.raft_steps.Installs.{has_other_at, installs}
+use Rattle.raft_node.specs.raft_steps.VoteHandler.{rejects_vote}
 use Rattle.proof_agreement.specs.Machine.{start}
 use Rattle.proof_agreement.specs.Stores.{whole, entry_at}
-use Rattle.raft_store.specs.Entries.{entry_meaning}
-use Rattle.raft_store.specs.Types.{WorldStore, WorldSnapshot, WorldMachine}
+use Rattle.raft_node.specs.raft_store.Entries.{entry_meaning}
+use Rattle.raft_node.specs.raft_store.Types.{WorldStore, WorldSnapshot, WorldMachine}
 use Rattle.proof_mirror.specs.Ready.{InStep}
 use Rattle.proof_mirror.proofs.Places.{at_index}
-use Rattle.raft_calls.specs.declared.message.Body.TheVariants as body
-use Rattle.raft_calls.specs.declared.message.Message.{Message}
-use Rattle.raft_calls.specs.declared.message.Origin.{Origin}
+use Rattle.raft_node.specs.raft_calls.declared.message.Body.TheVariants as body
+use Rattle.raft_node.specs.raft_calls.declared.message.Message.{Message}
+use Rattle.raft_node.specs.raft_calls.declared.message.Origin.{Origin}
 use Rattle.raft_node.specs.declared.node.Turn.{Turn}
 use Rattle.proof_deeds.specs.Chains.{left_by}
 use Rattle.proof_deeds.specs.Follows.{SnapshotSent}

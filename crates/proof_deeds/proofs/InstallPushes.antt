@@ -3,16 +3,16 @@ use Rattle.std.proofs.Common.{ℕ, zero, suc, ◌+◌, ◌-◌, ◌≤◌, ◌�
 use Rattle.std.specs.Prelude.{Contains, nat_lt, filter}
 use Rattle.std.specs.Map.{values_of}
 use Rattle.std.proofs.lemmas.List.{length-map, take-map, get_or-take}
-use Rattle.raft_state.specs.declared.ids.LeaderId.{LeaderId}
-use Rattle.raft_state.specs.declared.ids.LogId.{LogId}
+use Rattle.raft_node.specs.raft_state.declared.ids.LeaderId.{LeaderId}
+use Rattle.raft_node.specs.raft_state.declared.ids.LogId.{LogId}
 use Rattle.std.specs.Ordering.{is_gt, nat_cmp}
-use Rattle.raft_state.specs.Order.{next, vote_cmp}
-use Rattle.raft_command.specs.declared.command.Command.TheVariants as command
-use Rattle.raft_command.specs.declared.command.Condition.{Condition}
-use Rattle.raft_command.specs.declared.message.SnapshotResponse.{SnapshotResponse}
-use Rattle.raft_command.specs.declared.respond.Respond.TheVariants as respond
-use Rattle.raft_command.specs.declared.sm.CommandPayload.TheVariants as payload
-use Rattle.raft_command.specs.Sender.{Sender}
+use Rattle.raft_node.specs.raft_state.Order.{next, vote_cmp}
+use Rattle.raft_node.specs.raft_command.declared.command.Command.TheVariants as command
+use Rattle.raft_node.specs.raft_command.declared.command.Condition.{Condition}
+use Rattle.raft_node.specs.raft_command.declared.message.SnapshotResponse.{SnapshotResponse}
+use Rattle.raft_node.specs.raft_command.declared.respond.Respond.TheVariants as respond
+use Rattle.raft_node.specs.raft_command.declared.sm.CommandPayload.TheVariants as payload
+use Rattle.raft_node.specs.raft_command.Sender.{Sender}
 use Rattle.proof_agreement.specs.Machine.{World, Setup, Includes, Agree, leader_log, log_of, vote_of, last_leader}
 use Rattle.proof_agreement.specs.Machine as machine
 use Rattle.proof_agreement.specs.Stores.{Accepted, Stores, Session, SnapshotRequest, whole, entry_at, last_leader_of, of_list, first_entry}
@@ -23,17 +23,17 @@ use Rattle.proof_agreement.proofs.Consequences.{decided_agree}
 use Rattle.proof_agreement.proofs.StoresBridge.{front_low, snapshot_committed}
 use Rattle.proof_agreement.proofs.StoresFollow.{StoreOk, SnapshotRequestOk, StoresFollow}
 use Rattle.proof_agreement.proofs.WholeLogs.{whole_below, get_left}
-use Rattle.raft_store.specs.declared.entry.Entry.{Entry}
-use Rattle.raft_store.specs.Entries.{entry_meaning}
-use Rattle.raft_store.specs.Types.{WorldStore, WorldSnapshot}
-use Rattle.raft_store.proofs.Lists.{Run, under}
+use Rattle.raft_node.specs.raft_store.declared.entry.Entry.{Entry}
+use Rattle.raft_node.specs.raft_store.Entries.{entry_meaning}
+use Rattle.raft_node.specs.raft_store.Types.{WorldStore, WorldSnapshot}
+use Rattle.raft_node.proofs.raft_store_proofs.Lists.{Run, under}
 use Rattle.proof_mirror.specs.Ready.{Shaped}
 use Rattle.proof_mirror.proofs.Cuts.{cut_values}
 use Rattle.proof_mirror.proofs.Shape.{run_of_ids}
 use Rattle.raft_node.specs.declared.node.Turn.{Turn}
-use Rattle.raft_calls.specs.declared.message.Body.TheVariants as body
-use Rattle.raft_calls.specs.declared.message.Message.{Message}
-use Rattle.raft_calls.specs.declared.message.Origin.{Origin}
+use Rattle.raft_node.specs.raft_calls.declared.message.Body.TheVariants as body
+use Rattle.raft_node.specs.raft_calls.declared.message.Message.{Message}
+use Rattle.raft_node.specs.raft_calls.declared.message.Origin.{Origin}
 use Rattle.raft_node.specs.Execute.{sending}
 use Rattle.proof_deeds.specs.Chains.{stored, Done}
 use Rattle.proof_deeds.specs.Follows.{FrontIs, StoreIs, InstalledIs, RestIs, AcceptedId, AcceptedUpTo, VoteTold}

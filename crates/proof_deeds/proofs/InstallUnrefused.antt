@@ -4,19 +4,19 @@ use Rattle.std.specs.Prelude.{◌||◌, if◌then◌else◌}
 use Rattle.std.specs.List.{list_any}
 use Rattle.std.specs.Option.{option_to_list}
 use Rattle.std.specs.Ordering.{nat_cmp}
-use Rattle.raft_state.specs.declared.ids.LogId.{LogId}
-use Rattle.raft_state.specs.declared.membership.Members.{Members}
-use Rattle.raft_state.specs.Fits.{is_within}
-use Rattle.raft_error.specs.declared.error.EngineError.TheVariants.{IndexEnd, SnapshotUnfit}
-use Rattle.raft_command.specs.declared.config.EngineConfig.{EngineConfig}
-use Rattle.raft_steps.specs.InstallRefusals.{undoes_committed, falls_short, is_unfit, refusals_of_fit}
-use Rattle.raft_steps.specs.Refusals.{is_at_end}
-use Rattle.raft_steps.specs.RequestRefusals.{is_above_vote, is_above_committed}
-use Rattle.raft_steps.specs.VoteHandler.{rejects_vote}
-use Rattle.raft_store.specs.Types.{WorldStore, WorldSnapshot, WorldMachine}
-use Rattle.raft_calls.specs.declared.message.Body.TheVariants as body
-use Rattle.raft_calls.specs.declared.message.Message.{Message}
-use Rattle.raft_calls.specs.declared.message.Origin.{Origin}
+use Rattle.raft_node.specs.raft_state.declared.ids.LogId.{LogId}
+use Rattle.raft_node.specs.raft_state.declared.membership.Members.{Members}
+use Rattle.raft_node.specs.raft_state.Fits.{is_within}
+use Rattle.raft_node.specs.raft_error.declared.error.EngineError.TheVariants.{IndexEnd, SnapshotUnfit}
+use Rattle.raft_node.specs.raft_command.declared.config.EngineConfig.{EngineConfig}
+use Rattle.raft_node.specs.raft_steps.InstallRefusals.{undoes_committed, falls_short, is_unfit, refusals_of_fit}
+use Rattle.raft_node.specs.raft_steps.Refusals.{is_at_end}
+use Rattle.raft_node.specs.raft_steps.RequestRefusals.{is_above_vote, is_above_committed}
+use Rattle.raft_node.specs.raft_steps.VoteHandler.{rejects_vote}
+use Rattle.raft_node.specs.raft_store.Types.{WorldStore, WorldSnapshot, WorldMachine}
+use Rattle.raft_node.specs.raft_calls.declared.message.Body.TheVariants as body
+use Rattle.raft_node.specs.raft_calls.declared.message.Message.{Message}
+use Rattle.raft_node.specs.raft_calls.declared.message.Origin.{Origin}
 use Rattle.raft_node.specs.declared.node.Turn.{Turn}
 use Rattle.proof_deeds.specs.Images.{Ideal, setup_of}
 use Rattle.proof_deeds.specs.Knows.{Delivered, Stands}

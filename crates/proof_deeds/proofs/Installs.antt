@@ -6,22 +6,22 @@ use Rattle.std.specs.Ordering.{is_eq, nat_cmp}
 use Rattle.std.proofs.lemmas.Bool.{cases_lt, cond_both, not-false, not-true}
 use Rattle.std.proofs.lemmas.Cmp.{nat_cmp_total}
 use Rattle.std.proofs.lemmas.List.{length-take}
-use Rattle.raft_state.specs.declared.ids.LeaderId.{LeaderId}
-use Rattle.raft_state.specs.declared.ids.LogId.{LogId}
-use Rattle.raft_state.specs.Invariants.{first_index}
-use Rattle.raft_state.specs.Log.{last, at}
-use Rattle.raft_state.specs.Order.{next, log_id_cmp}
-use Rattle.raft_state.specs.Same.{nat_same, found_is}
-use Rattle.raft_state.specs.State.{accepted, truncate, undoes_membership}
-use Rattle.raft_state.proofs.StateLaws.{is_found_at}
-use Rattle.raft_command.specs.Push.{with_command}
-use Rattle.raft_command.specs.declared.command.Command.TheVariants as command
-use Rattle.raft_command.specs.declared.config.EngineConfig.{EngineConfig}
-use Rattle.raft_command.specs.declared.sm.CommandPayload.TheVariants as payload
-use Rattle.raft_steps.specs.FollowingHandler.{truncate_logs}
-use Rattle.raft_steps.specs.Installs.{has_other_at}
-use Rattle.raft_steps.specs.Parts.{with_state}
-use Rattle.raft_steps.specs.ServerStateHandler.{update_role}
+use Rattle.raft_node.specs.raft_state.declared.ids.LeaderId.{LeaderId}
+use Rattle.raft_node.specs.raft_state.declared.ids.LogId.{LogId}
+use Rattle.raft_node.specs.raft_state.Invariants.{first_index}
+use Rattle.raft_node.specs.raft_state.Log.{last, at}
+use Rattle.raft_node.specs.raft_state.Order.{next, log_id_cmp}
+use Rattle.raft_node.specs.raft_state.Same.{nat_same, found_is}
+use Rattle.raft_node.specs.raft_state.State.{accepted, truncate, undoes_membership}
+use Rattle.raft_node.proofs.raft_state_proofs.StateLaws.{is_found_at}
+use Rattle.raft_node.specs.raft_command.Push.{with_command}
+use Rattle.raft_node.specs.raft_command.declared.command.Command.TheVariants as command
+use Rattle.raft_node.specs.raft_command.declared.config.EngineConfig.{EngineConfig}
+use Rattle.raft_node.specs.raft_command.declared.sm.CommandPayload.TheVariants as payload
+use Rattle.raft_node.specs.raft_steps.FollowingHandler.{truncate_logs}
+use Rattle.raft_node.specs.raft_steps.Installs.{has_other_at}
+use Rattle.raft_node.specs.raft_steps.Parts.{with_state}
+use Rattle.raft_node.specs.raft_steps.ServerStateHandler.{update_role}
 use Rattle.proof_agreement.specs.Machine.{Setup, Includes}
 use Rattle.proof_agreement.specs.Machine as machine
 use Rattle.proof_agreement.specs.Stores.{Append, Session, SnapshotRequest, no_session, whole, entry_at}
@@ -29,9 +29,9 @@ use Rattle.proof_agreement.specs.Deeds.{EndStreams, TruncateForSnapshot, Install
 use Rattle.proof_agreement.proofs.StoresBridge.{front_low, snapshot_committed, snapshot_held, snapshot_below_accepted}
 use Rattle.proof_agreement.proofs.StoresFollow.{StoresFollow}
 use Rattle.proof_agreement.proofs.WholeLogs.{whole_below, whole_snapshot}
-use Rattle.raft_store.specs.declared.entry.Entry.{Entry}
-use Rattle.raft_store.specs.Entries.{entry_meaning}
-use Rattle.raft_store.specs.Types.{WorldStore, WorldSnapshot, WorldCommand}
+use Rattle.raft_node.specs.raft_store.declared.entry.Entry.{Entry}
+use Rattle.raft_node.specs.raft_store.Entries.{entry_meaning}
+use Rattle.raft_node.specs.raft_store.Types.{WorldStore, WorldSnapshot, WorldCommand}
 use Rattle.proof_mirror.specs.Ready.{InStep}
 use Rattle.proof_mirror.proofs.Cuts.{cut_parts}
 use Rattle.proof_mirror.proofs.Places.{at_index, end_at_none, first_below, next_last_le}

@@ -4,34 +4,34 @@ use Rattle.std.specs.Prelude.{IfSome, unwrap_or, slice_get}
 use Rattle.std.specs.List.{AllByRecursion}
 use Rattle.std.specs.Ordering.{nat_cmp}
 use Rattle.std.proofs.lemmas.Bool.{cond_both}
-use Rattle.raft_state.specs.declared.membership.Members.{Members}
-use Rattle.raft_state.specs.declared.membership.StoredMembership.{StoredMembership}
-use Rattle.raft_state.specs.Log.{last}
-use Rattle.raft_state.specs.Members.{voter_ids, learner_ids}
-use Rattle.raft_state.specs.Order.{next}
-use Rattle.raft_state.specs.State.{append_membership, extend}
-use Rattle.raft_progress_entry.specs.declared.entry.ProgressEntry.{ProgressEntry}
-use Rattle.raft_progress_entry.specs.Entry.{empty, silenced}
-use Rattle.raft_progress.specs.Table.{kept_row, row_of}
-use Rattle.raft_command.specs.declared.command.Command.TheVariants as command
-use Rattle.raft_command.specs.declared.config.EngineConfig.{EngineConfig}
-use Rattle.raft_steps.specs.FollowingHandler.{memberships_in}
-use Rattle.raft_steps.specs.LeaderHandler.{proposed, last_proposed, joined, leader_append_entries}
-use Rattle.raft_steps.specs.Parts.{with_state, under}
-use Rattle.raft_steps.specs.ReplicationHandler.{is_other, silenced_row, rebuild_progresses, rebuild_replication_streams, append_membership_led, initiate_replication}
-use Rattle.raft_steps.proofs.KeptLead.{each_image}
+use Rattle.raft_node.specs.raft_state.declared.membership.Members.{Members}
+use Rattle.raft_node.specs.raft_state.declared.membership.StoredMembership.{StoredMembership}
+use Rattle.raft_node.specs.raft_state.Log.{last}
+use Rattle.raft_node.specs.raft_state.Members.{voter_ids, learner_ids}
+use Rattle.raft_node.specs.raft_state.Order.{next}
+use Rattle.raft_node.specs.raft_state.State.{append_membership, extend}
+use Rattle.raft_node.specs.raft_progress_entry.declared.entry.ProgressEntry.{ProgressEntry}
+use Rattle.raft_node.specs.raft_progress_entry.Entry.{empty, silenced}
+use Rattle.raft_node.specs.raft_progress.Table.{kept_row, row_of}
+use Rattle.raft_node.specs.raft_command.declared.command.Command.TheVariants as command
+use Rattle.raft_node.specs.raft_command.declared.config.EngineConfig.{EngineConfig}
+use Rattle.raft_node.specs.raft_steps.FollowingHandler.{memberships_in}
+use Rattle.raft_node.specs.raft_steps.LeaderHandler.{proposed, last_proposed, joined, leader_append_entries}
+use Rattle.raft_node.specs.raft_steps.Parts.{with_state, under}
+use Rattle.raft_node.specs.raft_steps.ReplicationHandler.{is_other, silenced_row, rebuild_progresses, rebuild_replication_streams, append_membership_led, initiate_replication}
+use Rattle.raft_node.proofs.raft_steps_proofs.KeptLead.{each_image}
 use Rattle.proof_agreement.specs.Machine.{Setup}
 use Rattle.proof_agreement.specs.Deeds.{BuildStreams, MayAppendOwn, does}
-use Rattle.raft_store.specs.declared.entry.Entry.{Entry}
-use Rattle.raft_store.specs.Entries.{entry_meaning, members_of}
-use Rattle.raft_store.specs.Types.{WorldStore}
+use Rattle.raft_node.specs.raft_store.declared.entry.Entry.{Entry}
+use Rattle.raft_node.specs.raft_store.Entries.{entry_meaning, members_of}
+use Rattle.raft_node.specs.raft_store.Types.{WorldStore}
 use Rattle.proof_mirror.specs.Ready.{Ordered, InStep, KnowsLog, Pending, PendingLed}
 use Rattle.proof_mirror.proofs.Orders.{Orderly, may_put}
 use Rattle.proof_mirror.proofs.Proposes.{pending_progresses, pending_join, joined_ids}
 use Rattle.proof_mirror.proofs.Queued.{awaits_one}
 use Rattle.proof_mirror.proofs.Sends.{pending_rebuild}
 use Rattle.raft_node.specs.declared.node.Turn.{Turn}
-use Rattle.raft_calls.specs.Feeds.{WorldLed}
+use Rattle.raft_node.specs.raft_calls.Feeds.{WorldLed}
 use Rattle.proof_deeds.specs.Chains.{Reached, Does, stored, left_by}
 use Rattle.proof_deeds.specs.Follows.{StoreIs}
 use Rattle.proof_deeds.specs.Images.{Ideal, IsNamed, IsWellFormedEntry, number}

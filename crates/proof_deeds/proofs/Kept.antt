@@ -4,37 +4,37 @@ use Rattle.std.specs.Prelude.{if◌then◌else◌, filter_map}
 use Rattle.std.specs.Ordering.{is_eq, is_le, is_lt, nat_cmp, bool_cmp, ordering_then}
 use Rattle.std.specs.declared.cmp.Ordering.TheVariants.{Greater}
 use Rattle.std.proofs.lemmas.Cmp.{nat_cmp_total}
-use Rattle.raft_state.specs.declared.ids.LogId.{LogId}
-use Rattle.raft_state.specs.declared.ids.Vote.{Vote}
-use Rattle.raft_state.specs.declared.membership.Members.{Members}
-use Rattle.raft_state.specs.declared.membership.StoredMembership.{StoredMembership}
-use Rattle.raft_state.specs.Order.{last_id_cmp, leader_id_cmp, vote_cmp}
-use Rattle.raft_state.specs.State.{is_leader, is_leading}
-use Rattle.raft_progress.specs.Quorum.{is_quorum}
-use Rattle.raft_command.specs.declared.config.EngineConfig.{EngineConfig}
-use Rattle.raft_command.specs.declared.message.VoteRequest.{VoteRequest}
-use Rattle.raft_command.specs.declared.message.VoteResponse.{VoteResponse}
-use Rattle.raft_command.specs.Message.{is_granted_to}
-use Rattle.raft_proposer.specs.Candidate.{grant_by, into_leader, is_granted}
-use Rattle.raft_steps.specs.Engine.{elect, handle_vote_resp, initialize, lead_by_votes, may_establish, take_grant, take_rejection, as_uncommitted}
-use Rattle.raft_steps.specs.FollowingHandler.{do_append_entries}
-use Rattle.raft_steps.specs.Laws.{Queues, saved_vote}
-use Rattle.raft_steps.specs.LeaderHandler.{leader_append_entries, proposed}
-use Rattle.raft_steps.specs.Parts.{Core, on_core, on_leader}
-use Rattle.raft_steps.specs.ReplicationHandler.{initiate_replication, rebuild_replication_streams}
-use Rattle.raft_steps.specs.Requests.{handle_vote_req, refuses_vote_req}
-use Rattle.raft_steps.specs.ServerStateHandler.{update_role}
-use Rattle.raft_steps.specs.VoteHandler.{become_following, become_leader, begin_lead, lead_anew, rejects_vote, take_vote, update_internal_server_state, update_vote}
-use Rattle.raft_steps.proofs.LawsQueue.{risen_le}
-use Rattle.raft_store.specs.declared.config.WorldConfig.{WorldConfig}
-use Rattle.raft_store.specs.declared.entry.Entry.{Entry}
-use Rattle.raft_store.specs.Entries.{entry_meaning}
-use Rattle.raft_store.specs.Types.{WorldCandidate, WorldLeader, WorldMachine}
-use Rattle.raft_calls.specs.Feeds.{WorldLed}
-use Rattle.raft_calls.specs.Elections.{first_entry}
+use Rattle.raft_node.specs.raft_state.declared.ids.LogId.{LogId}
+use Rattle.raft_node.specs.raft_state.declared.ids.Vote.{Vote}
+use Rattle.raft_node.specs.raft_state.declared.membership.Members.{Members}
+use Rattle.raft_node.specs.raft_state.declared.membership.StoredMembership.{StoredMembership}
+use Rattle.raft_node.specs.raft_state.Order.{last_id_cmp, leader_id_cmp, vote_cmp}
+use Rattle.raft_node.specs.raft_state.State.{is_leader, is_leading}
+use Rattle.raft_node.specs.raft_progress.Quorum.{is_quorum}
+use Rattle.raft_node.specs.raft_command.declared.config.EngineConfig.{EngineConfig}
+use Rattle.raft_node.specs.raft_command.declared.message.VoteRequest.{VoteRequest}
+use Rattle.raft_node.specs.raft_command.declared.message.VoteResponse.{VoteResponse}
+use Rattle.raft_node.specs.raft_command.Message.{is_granted_to}
+use Rattle.raft_node.specs.raft_proposer.Candidate.{grant_by, into_leader, is_granted}
+use Rattle.raft_node.specs.raft_steps.Engine.{elect, handle_vote_resp, initialize, lead_by_votes, may_establish, take_grant, take_rejection, as_uncommitted}
+use Rattle.raft_node.specs.raft_steps.FollowingHandler.{do_append_entries}
+use Rattle.raft_node.specs.raft_steps.Laws.{Queues, saved_vote}
+use Rattle.raft_node.specs.raft_steps.LeaderHandler.{leader_append_entries, proposed}
+use Rattle.raft_node.specs.raft_steps.Parts.{Core, on_core, on_leader}
+use Rattle.raft_node.specs.raft_steps.ReplicationHandler.{initiate_replication, rebuild_replication_streams}
+use Rattle.raft_node.specs.raft_steps.Requests.{handle_vote_req, refuses_vote_req}
+use Rattle.raft_node.specs.raft_steps.ServerStateHandler.{update_role}
+use Rattle.raft_node.specs.raft_steps.VoteHandler.{become_following, become_leader, begin_lead, lead_anew, rejects_vote, take_vote, update_internal_server_state, update_vote}
+use Rattle.raft_node.proofs.raft_steps_proofs.LawsQueue.{risen_le}
+use Rattle.raft_node.specs.raft_store.declared.config.WorldConfig.{WorldConfig}
+use Rattle.raft_node.specs.raft_store.declared.entry.Entry.{Entry}
+use Rattle.raft_node.specs.raft_store.Entries.{entry_meaning}
+use Rattle.raft_node.specs.raft_store.Types.{WorldCandidate, WorldLeader, WorldMachine}
+use Rattle.raft_node.specs.raft_calls.Feeds.{WorldLed}
+use Rattle.raft_node.specs.raft_calls.Elections.{first_entry}
 use Rattle.proof_deeds.specs.Images.{IsNamed, number}
 use Rattle.proof_deeds.proofs.Numbers.{Order, ordered, below, same, above}
-use Rattle.raft_steps.proofs.Kept.{either}
+use Rattle.raft_node.proofs.raft_steps_proofs.Kept.{either}
 
 abbrev WorldCore : Type 0
 WorldCore = Core WorldConfig ℕ (Unit {0}) Entry ℕ ℕ (List Entry)

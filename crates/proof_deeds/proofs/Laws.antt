@@ -3,33 +3,33 @@ use Rattle.std.proofs.Common.{ℕ, ◌≤◌, ◌≡◌, inr, List, [], ◌++◌
 use Rattle.std.specs.List.{AllByRecursion}
 use Rattle.std.specs.Ordering.{nat_cmp}
 use Rattle.std.proofs.lemmas.Cmp.{nat_cmp_total}
-use Rattle.raft_state.specs.declared.membership.Members.{Members}
-use Rattle.raft_state.specs.Same.{nat_same}
-use Rattle.raft_command.specs.declared.config.EngineConfig.{EngineConfig}
-use Rattle.raft_command.specs.declared.message.VoteResponse.{VoteResponse}
-use Rattle.raft_steps.specs.Refusals.{refusals_of_vote_resp}
-use Rattle.raft_steps.specs.Engine.{elect, handle_vote_resp, initialize}
-use Rattle.raft_steps.specs.FollowingHandler.{memberships_in}
-use Rattle.raft_steps.specs.Laws.{Queues}
-use Rattle.raft_steps.specs.Requests.{handle_vote_req}
-use Rattle.raft_steps.proofs.KeptEngine.{handle_vote_resp_is_sound}
-use Rattle.raft_steps.proofs.LawsFollow.{handle_vote_req_queues}
-use Rattle.raft_steps.proofs.LawsQueue.{elect_queues, handle_vote_resp_queues}
-use Rattle.raft_store.specs.Entries.{entry_meaning}
-use Rattle.raft_store.specs.Mirror.{last_two}
-use Rattle.raft_store.specs.Store as store
-use Rattle.raft_store.specs.Types.{WorldCommand, WorldMachine, WorldStore}
+use Rattle.raft_node.specs.raft_state.declared.membership.Members.{Members}
+use Rattle.raft_node.specs.raft_state.Same.{nat_same}
+use Rattle.raft_node.specs.raft_command.declared.config.EngineConfig.{EngineConfig}
+use Rattle.raft_node.specs.raft_command.declared.message.VoteResponse.{VoteResponse}
+use Rattle.raft_node.specs.raft_steps.Refusals.{refusals_of_vote_resp}
+use Rattle.raft_node.specs.raft_steps.Engine.{elect, handle_vote_resp, initialize}
+use Rattle.raft_node.specs.raft_steps.FollowingHandler.{memberships_in}
+use Rattle.raft_node.specs.raft_steps.Laws.{Queues}
+use Rattle.raft_node.specs.raft_steps.Requests.{handle_vote_req}
+use Rattle.raft_node.proofs.raft_steps_proofs.KeptEngine.{handle_vote_resp_is_sound}
+use Rattle.raft_node.proofs.raft_steps_proofs.LawsFollow.{handle_vote_req_queues}
+use Rattle.raft_node.proofs.raft_steps_proofs.LawsQueue.{elect_queues, handle_vote_resp_queues}
+use Rattle.raft_node.specs.raft_store.Entries.{entry_meaning}
+use Rattle.raft_node.specs.raft_store.Mirror.{last_two}
+use Rattle.raft_node.specs.raft_store.Store as store
+use Rattle.raft_node.specs.raft_store.Types.{WorldCommand, WorldMachine, WorldStore}
 use Rattle.proof_mirror.specs.Ready.{PendingIn}
 use Rattle.proof_mirror.proofs.Elections.{pending_elect, pending_vote_resp}
 use Rattle.proof_mirror.proofs.Proposes.{takes_id}
 use Rattle.proof_mirror.proofs.Sound.{machine_asks}
 use Rattle.proof_mirror.proofs.Starting.{pending_vote_req_passed, sound_order}
-use Rattle.raft_calls.specs.declared.message.Body.{Body}
-use Rattle.raft_calls.specs.declared.message.Message.{Message}
-use Rattle.raft_calls.specs.declared.message.Body.TheVariants as body
+use Rattle.raft_node.specs.raft_calls.declared.message.Body.{Body}
+use Rattle.raft_node.specs.raft_calls.declared.message.Message.{Message}
+use Rattle.raft_node.specs.raft_calls.declared.message.Body.TheVariants as body
 use Rattle.raft_node.specs.declared.node.Turn.{Turn}
-use Rattle.raft_calls.specs.Feeds.{own_grant}
-use Rattle.raft_calls.specs.Elections.{first_entry}
+use Rattle.raft_node.specs.raft_calls.Feeds.{own_grant}
+use Rattle.raft_node.specs.raft_calls.Elections.{first_entry}
 use Rattle.proof_deeds.specs.Chains.{Unread, left_by}
 use Rattle.proof_deeds.specs.Follows.{BodyIs, VoteAnswered, VoteAsked}
 use Rattle.proof_deeds.specs.Images.{Ideal, IsNamed, number, setup_of}

@@ -6,35 +6,35 @@ use Rattle.std.specs.List.{AllByRecursion}
 use Rattle.std.specs.Ordering.{is_eq, is_le, nat_cmp}
 use Rattle.std.proofs.lemmas.Bool.{and_parts, cond_both}
 use Rattle.std.proofs.lemmas.Cmp.{nat_cmp_total}
-use Rattle.raft_state.specs.declared.ids.LeaderId.{LeaderId}
-use Rattle.raft_state.specs.declared.ids.Vote.{Vote}
-use Rattle.raft_state.specs.declared.membership.Members.{Members}
-use Rattle.raft_state.specs.declared.membership.StoredMembership.{StoredMembership}
-use Rattle.raft_state.specs.Order.{last_id_cmp, next, vote_cmp}
-use Rattle.raft_state.specs.Same.{nat_same}
-use Rattle.raft_command.specs.declared.config.EngineConfig.{EngineConfig}
-use Rattle.raft_command.specs.declared.replication.ReplicationResult.{ReplicationResult}
-use Rattle.raft_command.specs.declared.replication.RequestId.{RequestId}
-use Rattle.raft_proposer.specs.Leader.{numbered}
-use Rattle.raft_steps.specs.Conditions.{MayPropose, may_change_membership}
-use Rattle.raft_steps.specs.FollowingHandler.{memberships_in}
-use Rattle.raft_steps.specs.Invariants.{IsSoundLed, LeaderFits}
-use Rattle.raft_steps.specs.LeaderHandler.{joined, last_proposed, leader_append_entries, proposed}
-use Rattle.raft_steps.specs.Parts.{led_of, leading}
-use Rattle.raft_steps.specs.Refusals.{blank_is_at_end, is_spent, refusals_of_update_vote}
-use Rattle.raft_steps.specs.Replies.{update_progress}
-use Rattle.raft_steps.specs.ReplyRefusals.{refusals_of_entry, refusals_of_result}
-use Rattle.raft_steps.specs.ReplicationHandler.{initiate_replication}
-use Rattle.raft_steps.specs.VoteHandler.{rejects_vote, update_vote}
-use Rattle.raft_steps.proofs.KeptEngine.{update_vote_is_sound}
-use Rattle.raft_steps.proofs.LawsQueue.{update_vote_queues}
-use Rattle.raft_steps.proofs.Unrefused.{second_fails}
-use Rattle.raft_steps.specs.Engine.{as_uncommitted}
-use Rattle.raft_error.specs.declared.error.EngineError.TheVariants.{IndexEnd, Spent}
-use Rattle.raft_store.specs.declared.entry.Value.{Value}
-use Rattle.raft_store.specs.declared.entry.Entry.{Entry}
-use Rattle.raft_store.specs.Entries.{entry_meaning, members_of}
-use Rattle.raft_store.specs.Types.{WorldLeader, WorldMachine, WorldStore}
+use Rattle.raft_node.specs.raft_state.declared.ids.LeaderId.{LeaderId}
+use Rattle.raft_node.specs.raft_state.declared.ids.Vote.{Vote}
+use Rattle.raft_node.specs.raft_state.declared.membership.Members.{Members}
+use Rattle.raft_node.specs.raft_state.declared.membership.StoredMembership.{StoredMembership}
+use Rattle.raft_node.specs.raft_state.Order.{last_id_cmp, next, vote_cmp}
+use Rattle.raft_node.specs.raft_state.Same.{nat_same}
+use Rattle.raft_node.specs.raft_command.declared.config.EngineConfig.{EngineConfig}
+use Rattle.raft_node.specs.raft_command.declared.replication.ReplicationResult.{ReplicationResult}
+use Rattle.raft_node.specs.raft_command.declared.replication.RequestId.{RequestId}
+use Rattle.raft_node.specs.raft_proposer.Leader.{numbered}
+use Rattle.raft_node.specs.raft_steps.Conditions.{MayPropose, may_change_membership}
+use Rattle.raft_node.specs.raft_steps.FollowingHandler.{memberships_in}
+use Rattle.raft_node.specs.raft_steps.Invariants.{IsSoundLed, LeaderFits}
+use Rattle.raft_node.specs.raft_steps.LeaderHandler.{joined, last_proposed, leader_append_entries, proposed}
+use Rattle.raft_node.specs.raft_steps.Parts.{led_of, leading}
+use Rattle.raft_node.specs.raft_steps.Refusals.{blank_is_at_end, is_spent, refusals_of_update_vote}
+use Rattle.raft_node.specs.raft_steps.Replies.{update_progress}
+use Rattle.raft_node.specs.raft_steps.ReplyRefusals.{refusals_of_entry, refusals_of_result}
+use Rattle.raft_node.specs.raft_steps.ReplicationHandler.{initiate_replication}
+use Rattle.raft_node.specs.raft_steps.VoteHandler.{rejects_vote, update_vote}
+use Rattle.raft_node.proofs.raft_steps_proofs.KeptEngine.{update_vote_is_sound}
+use Rattle.raft_node.proofs.raft_steps_proofs.LawsQueue.{update_vote_queues}
+use Rattle.raft_node.proofs.raft_steps_proofs.Unrefused.{second_fails}
+use Rattle.raft_node.specs.raft_steps.Engine.{as_uncommitted}
+use Rattle.raft_node.specs.raft_error.declared.error.EngineError.TheVariants.{IndexEnd, Spent}
+use Rattle.raft_node.specs.raft_store.declared.entry.Value.{Value}
+use Rattle.raft_node.specs.raft_store.declared.entry.Entry.{Entry}
+use Rattle.raft_node.specs.raft_store.Entries.{entry_meaning, members_of}
+use Rattle.raft_node.specs.raft_store.Types.{WorldLeader, WorldMachine, WorldStore}
 use Rattle.proof_mirror.specs.Ready.{KnowsLog, PendingIn, PendingLed}
 use Rattle.proof_mirror.proofs.Elections.{pending_update_vote}
 use Rattle.proof_mirror.proofs.Orders.{Orderly}
@@ -43,9 +43,9 @@ use Rattle.proof_mirror.proofs.Replying.{pending_progress}
 use Rattle.proof_mirror.proofs.Sends.{pending_initiate}
 use Rattle.proof_mirror.proofs.Starting.{sound_order}
 use Rattle.raft_node.specs.declared.node.Turn.{Turn}
-use Rattle.raft_calls.specs.Feeds.{WorldLed}
-use Rattle.raft_calls.specs.LeaderCalls.{value_entry}
-use Rattle.raft_calls.proofs.LeaderReady.{no_members}
+use Rattle.raft_node.specs.raft_calls.Feeds.{WorldLed}
+use Rattle.raft_node.specs.raft_calls.LeaderCalls.{value_entry}
+use Rattle.raft_node.proofs.raft_calls_proofs.LeaderReady.{no_members}
 use Rattle.proof_deeds.specs.Images.{Ideal, setup_of}
 use Rattle.proof_deeds.specs.Knows.{CarriedIn, Stands}
 use Rattle.proof_deeds.proofs.AppendFitting.{Settled}

@@ -4,50 +4,50 @@ use Rattle.std.specs.Prelude.{IfSome}
 use Rattle.std.specs.List.{AllByRecursion}
 use Rattle.std.specs.Ordering.{is_le, nat_cmp}
 use Rattle.std.proofs.lemmas.Cmp.{nat_cmp_total}
-use Rattle.raft_state.specs.declared.ids.LogId.{LogId}
-use Rattle.raft_state.specs.Same.{nat_same}
-use Rattle.raft_state.specs.declared.ids.Vote.{Vote}
-use Rattle.raft_state.specs.declared.membership.Members.{Members}
-use Rattle.raft_state.specs.declared.membership.StoredMembership.{StoredMembership}
-use Rattle.raft_state.specs.Fits.{fits}
-use Rattle.raft_state.specs.Order.{last_id_cmp, next}
-use Rattle.raft_state.proofs.Orders.{is_equal}
-use Rattle.raft_progress_entry.specs.Entry.{silenced}
-use Rattle.raft_command.specs.Replication.{number_of}
-use Rattle.raft_command.specs.declared.config.EngineConfig.{EngineConfig}
-use Rattle.raft_command.specs.declared.replication.ReplicationResult.{ReplicationResult}
-use Rattle.raft_command.specs.declared.replication.RequestId.{RequestId}
-use Rattle.raft_steps.specs.Refusals.{refusals_of_propose}
-use Rattle.raft_steps.specs.Conditions.{MayPropose, may_change_membership, shares_group}
-use Rattle.raft_steps.specs.FollowingHandler.{memberships_in}
-use Rattle.raft_steps.specs.Invariants.{IsSoundLed, LeaderFits}
-use Rattle.raft_steps.specs.LeaderHandler.{leader_append_entries, read_log_id}
-use Rattle.raft_steps.specs.LogHandler.{try_purge_log}
-use Rattle.raft_steps.specs.Parts.{leading, led_of, led_machine, on_core}
-use Rattle.raft_steps.specs.Replies.{on_entry, update_conflicting, update_failed_progress, update_matching, update_success_progress, purge_unless_inflight, take_reply, update_progress}
-use Rattle.raft_steps.specs.ReplyRefusals.{refusals_of_entry, refusals_of_acknowledged, refusals_of_answer, refusals_of_result}
-use Rattle.raft_steps.specs.ReplicationHandler.{initiate_replication, update_local_progress}
-use Rattle.raft_steps.proofs.KeptCommit.{leader_append_kept}
-use Rattle.raft_steps.proofs.KeptPurge.{purge_unless_kept}
-use Rattle.raft_steps.proofs.KeptReplies.{reply_kept}
-use Rattle.raft_steps.proofs.Leads.{vote_same}
+use Rattle.raft_node.specs.raft_state.declared.ids.LogId.{LogId}
+use Rattle.raft_node.specs.raft_state.Same.{nat_same}
+use Rattle.raft_node.specs.raft_state.declared.ids.Vote.{Vote}
+use Rattle.raft_node.specs.raft_state.declared.membership.Members.{Members}
+use Rattle.raft_node.specs.raft_state.declared.membership.StoredMembership.{StoredMembership}
+use Rattle.raft_node.specs.raft_state.Fits.{fits}
+use Rattle.raft_node.specs.raft_state.Order.{last_id_cmp, next}
+use Rattle.raft_node.proofs.raft_state_proofs.Orders.{is_equal}
+use Rattle.raft_node.specs.raft_progress_entry.Entry.{silenced}
+use Rattle.raft_node.specs.raft_command.Replication.{number_of}
+use Rattle.raft_node.specs.raft_command.declared.config.EngineConfig.{EngineConfig}
+use Rattle.raft_node.specs.raft_command.declared.replication.ReplicationResult.{ReplicationResult}
+use Rattle.raft_node.specs.raft_command.declared.replication.RequestId.{RequestId}
+use Rattle.raft_node.specs.raft_steps.Refusals.{refusals_of_propose}
+use Rattle.raft_node.specs.raft_steps.Conditions.{MayPropose, may_change_membership, shares_group}
+use Rattle.raft_node.specs.raft_steps.FollowingHandler.{memberships_in}
+use Rattle.raft_node.specs.raft_steps.Invariants.{IsSoundLed, LeaderFits}
+use Rattle.raft_node.specs.raft_steps.LeaderHandler.{leader_append_entries, read_log_id}
+use Rattle.raft_node.specs.raft_steps.LogHandler.{try_purge_log}
+use Rattle.raft_node.specs.raft_steps.Parts.{leading, led_of, led_machine, on_core}
+use Rattle.raft_node.specs.raft_steps.Replies.{on_entry, update_conflicting, update_failed_progress, update_matching, update_success_progress, purge_unless_inflight, take_reply, update_progress}
+use Rattle.raft_node.specs.raft_steps.ReplyRefusals.{refusals_of_entry, refusals_of_acknowledged, refusals_of_answer, refusals_of_result}
+use Rattle.raft_node.specs.raft_steps.ReplicationHandler.{initiate_replication, update_local_progress}
+use Rattle.raft_node.proofs.raft_steps_proofs.KeptCommit.{leader_append_kept}
+use Rattle.raft_node.proofs.raft_steps_proofs.KeptPurge.{purge_unless_kept}
+use Rattle.raft_node.proofs.raft_steps_proofs.KeptReplies.{reply_kept}
+use Rattle.raft_node.proofs.raft_steps_proofs.Leads.{vote_same}
 use Rattle.proof_agreement.specs.Machine.{Setup}
 use Rattle.proof_agreement.specs.Deeds.{HasAccepted, MayAppendOwn}
-use Rattle.raft_store.specs.declared.entry.Entry.{Entry}
-use Rattle.raft_store.specs.Entries.{entry_meaning, members_of}
-use Rattle.raft_store.specs.Types.{WorldStore, WorldMachine, WorldLeader}
+use Rattle.raft_node.specs.raft_store.declared.entry.Entry.{Entry}
+use Rattle.raft_node.specs.raft_store.Entries.{entry_meaning, members_of}
+use Rattle.raft_node.specs.raft_store.Types.{WorldStore, WorldMachine, WorldLeader}
 use Rattle.proof_mirror.specs.Ready.{KnowsLog, Pending, PendingLed}
 use Rattle.proof_mirror.proofs.Orders.{Orderly, in_order}
 use Rattle.proof_mirror.proofs.Purging.{pending_try_purge}
 use Rattle.proof_mirror.proofs.Replying.{pending_success}
 use Rattle.proof_mirror.proofs.Sound.{led_knows}
-use Rattle.raft_command.specs.Message.{is_success}
-use Rattle.raft_command.specs.declared.message.AppendEntriesResponse.{AppendEntriesResponse}
-use Rattle.raft_calls.specs.declared.message.Body.TheVariants as body
-use Rattle.raft_calls.specs.declared.message.Message.{Message}
-use Rattle.raft_calls.specs.declared.message.Origin.{Origin}
+use Rattle.raft_node.specs.raft_command.Message.{is_success}
+use Rattle.raft_node.specs.raft_command.declared.message.AppendEntriesResponse.{AppendEntriesResponse}
+use Rattle.raft_node.specs.raft_calls.declared.message.Body.TheVariants as body
+use Rattle.raft_node.specs.raft_calls.declared.message.Message.{Message}
+use Rattle.raft_node.specs.raft_calls.declared.message.Origin.{Origin}
 use Rattle.raft_node.specs.declared.node.Turn.{Turn}
-use Rattle.raft_calls.specs.Feeds.{WorldLed}
+use Rattle.raft_node.specs.raft_calls.Feeds.{WorldLed}
 use Rattle.proof_deeds.specs.Chains.{Carried, Does, left_by}
 use Rattle.proof_deeds.specs.Follows.{StoreIs, AppendAnswered, BodyIs}
 use Rattle.proof_deeds.specs.Images.{Ideal, IsNamed, IsWellFormedEntry, number, setup_of}

@@ -6,33 +6,33 @@ use Rattle.std.specs.Ordering.{is_eq, nat_cmp}
 use Rattle.std.proofs.lemmas.Bool.{cond_both}
 use Rattle.std.proofs.lemmas.Bool.Decides.{nat_tests}
 use Rattle.std.proofs.lemmas.Cmp.{nat_cmp_total}
-use Rattle.raft_state.specs.Same.{nat_same}
-use Rattle.raft_state.proofs.LogLists.{each_append}
-use Rattle.raft_state.proofs.Orders.{is_equal}
-use Rattle.raft_progress_entry.specs.declared.entry.Inflight.{Inflight}
-use Rattle.raft_progress_entry.specs.declared.entry.Inflight.TheVariants as inflight
-use Rattle.raft_progress_entry.specs.declared.entry.ProgressEntry.{ProgressEntry}
-use Rattle.raft_progress_entry.specs.Entry.{next_send, sent}
-use Rattle.raft_command.specs.declared.command.Command.TheVariants as command
-use Rattle.raft_command.specs.declared.config.EngineConfig.{EngineConfig}
-use Rattle.raft_steps.specs.Invariants.{IsSoundLed}
-use Rattle.raft_steps.specs.Parts.{led_of, leading}
-use Rattle.raft_steps.specs.ReplicationHandler.{is_other, sent_row, send_commands, sends_of, initiate_replication}
-use Rattle.raft_steps.proofs.KeptLead.{each_image}
+use Rattle.raft_node.specs.raft_state.Same.{nat_same}
+use Rattle.raft_node.proofs.raft_state_proofs.LogLists.{each_append}
+use Rattle.raft_node.proofs.raft_state_proofs.Orders.{is_equal}
+use Rattle.raft_node.specs.raft_progress_entry.declared.entry.Inflight.{Inflight}
+use Rattle.raft_node.specs.raft_progress_entry.declared.entry.Inflight.TheVariants as inflight
+use Rattle.raft_node.specs.raft_progress_entry.declared.entry.ProgressEntry.{ProgressEntry}
+use Rattle.raft_node.specs.raft_progress_entry.Entry.{next_send, sent}
+use Rattle.raft_node.specs.raft_command.declared.command.Command.TheVariants as command
+use Rattle.raft_node.specs.raft_command.declared.config.EngineConfig.{EngineConfig}
+use Rattle.raft_node.specs.raft_steps.Invariants.{IsSoundLed}
+use Rattle.raft_node.specs.raft_steps.Parts.{led_of, leading}
+use Rattle.raft_node.specs.raft_steps.ReplicationHandler.{is_other, sent_row, send_commands, sends_of, initiate_replication}
+use Rattle.raft_node.proofs.raft_steps_proofs.KeptLead.{each_image}
 use Rattle.proof_agreement.specs.LeaderNumbers.{leader_node}
 use Rattle.proof_agreement.specs.Machine.{Setup}
 use Rattle.proof_agreement.specs.Deeds.{Streams}
-use Rattle.raft_store.specs.declared.config.WorldConfig.{WorldConfig}
-use Rattle.raft_store.specs.declared.entry.Entry.{Entry}
-use Rattle.raft_store.specs.Entries.{entry_meaning}
-use Rattle.raft_store.specs.Types.{WorldStore, WorldCommand, WorldMachine, WorldLeader}
+use Rattle.raft_node.specs.raft_store.declared.config.WorldConfig.{WorldConfig}
+use Rattle.raft_node.specs.raft_store.declared.entry.Entry.{Entry}
+use Rattle.raft_node.specs.raft_store.Entries.{entry_meaning}
+use Rattle.raft_node.specs.raft_store.Types.{WorldStore, WorldCommand, WorldMachine, WorldLeader}
 use Rattle.proof_mirror.specs.Ready.{Ordered, Ready, HasWhatIsSent, InStep, SearchFits, PendingLed}
 use Rattle.proof_mirror.proofs.Orders.{ordered_exec}
 use Rattle.proof_mirror.proofs.Sends.{IsThere, next_there}
 use Rattle.proof_mirror.proofs.Shape.{shaped_of}
 use Rattle.proof_mirror.proofs.Queued.{fits_of}
 use Rattle.raft_node.specs.declared.node.Turn.{Turn}
-use Rattle.raft_calls.specs.Feeds.{WorldLed}
+use Rattle.raft_node.specs.raft_calls.Feeds.{WorldLed}
 use Rattle.proof_deeds.specs.Chains.{Does, Reached, stored, left_by, Done, Carried}
 use Rattle.proof_deeds.specs.Follows.{StoreIs}
 use Rattle.proof_deeds.specs.Images.{Ideal, number}

@@ -4,42 +4,42 @@ use Rattle.std.specs.Prelude.{IfSome, nat_lt, slice_get, if◌then◌else◌}
 use Rattle.std.specs.Ordering.{is_gt, is_le, nat_cmp}
 use Rattle.std.proofs.lemmas.Bool.{cond_both}
 use Rattle.std.proofs.lemmas.Cmp.{nat_cmp_total}
-use Rattle.raft_state.specs.declared.ids.LogId.{LogId}
-use Rattle.raft_state.specs.declared.membership.Members.{Members}
-use Rattle.raft_state.specs.Fits.{fits}
-use Rattle.raft_state.specs.Log.{from, last}
-use Rattle.raft_state.specs.Order.{last_id_cmp, next}
-use Rattle.raft_state.specs.Same.{nat_same}
-use Rattle.raft_state.specs.State.{purge}
-use Rattle.raft_progress_entry.specs.declared.entry.ProgressEntry.{ProgressEntry}
-use Rattle.raft_progress_entry.specs.Entry.{conflicted, matched, next_send, refusals_of_conflicted, sent, silenced}
-use Rattle.raft_progress.specs.Quorum.{is_quorum}
-use Rattle.raft_progress.specs.Table.{get}
-use Rattle.raft_command.specs.Push.{with_command}
-use Rattle.raft_command.specs.Queue.{queued}
-use Rattle.raft_command.specs.Replication.{number_of}
-use Rattle.raft_command.specs.declared.command.Command.TheVariants.{PurgeLog}
-use Rattle.raft_command.specs.declared.config.EngineConfig.{EngineConfig}
-use Rattle.raft_command.specs.declared.replication.ReplicationResult.{ReplicationResult}
-use Rattle.raft_command.specs.declared.replication.RequestId.{RequestId}
-use Rattle.raft_proposer.specs.Leader.{granted_id}
-use Rattle.raft_steps.specs.FollowingHandler.{memberships_in}
-use Rattle.raft_steps.specs.Invariants.{IsSoundLed}
-use Rattle.raft_steps.specs.LeaderHandler.{joined, last_proposed, leader_append_entries, proposed}
-use Rattle.raft_steps.specs.LogHandler.{is_target_inflight, purge_log, try_purge_log}
-use Rattle.raft_steps.specs.Parts.{led_of, under}
-use Rattle.raft_steps.specs.Replies.{on_entry, purge_unless_inflight, send_next, take_reply, update_conflicting, update_failed_progress, update_leader_clock, update_matching, update_progress, update_success_progress}
-use Rattle.raft_steps.specs.ReplicationHandler.{append_membership_led, commit_granted, initiate_replication, rebuild_progresses, rebuild_replication_streams, send_commands, try_commit_quorum_accepted, with_entry}
-use Rattle.raft_steps.specs.ReplyRefusals.{refusals_of_acknowledged, refusals_of_answer, refusals_of_entry, refusals_of_result}
-use Rattle.raft_steps.proofs.KeptCommit.{granted_fits}
-use Rattle.raft_steps.proofs.KeptReplies.{clock_kept, noted_kept}
+use Rattle.raft_node.specs.raft_state.declared.ids.LogId.{LogId}
+use Rattle.raft_node.specs.raft_state.declared.membership.Members.{Members}
+use Rattle.raft_node.specs.raft_state.Fits.{fits}
+use Rattle.raft_node.specs.raft_state.Log.{from, last}
+use Rattle.raft_node.specs.raft_state.Order.{last_id_cmp, next}
+use Rattle.raft_node.specs.raft_state.Same.{nat_same}
+use Rattle.raft_node.specs.raft_state.State.{purge}
+use Rattle.raft_node.specs.raft_progress_entry.declared.entry.ProgressEntry.{ProgressEntry}
+use Rattle.raft_node.specs.raft_progress_entry.Entry.{conflicted, matched, next_send, refusals_of_conflicted, sent, silenced}
+use Rattle.raft_node.specs.raft_progress.Quorum.{is_quorum}
+use Rattle.raft_node.specs.raft_progress.Table.{get}
+use Rattle.raft_node.specs.raft_command.Push.{with_command}
+use Rattle.raft_node.specs.raft_command.Queue.{queued}
+use Rattle.raft_node.specs.raft_command.Replication.{number_of}
+use Rattle.raft_node.specs.raft_command.declared.command.Command.TheVariants.{PurgeLog}
+use Rattle.raft_node.specs.raft_command.declared.config.EngineConfig.{EngineConfig}
+use Rattle.raft_node.specs.raft_command.declared.replication.ReplicationResult.{ReplicationResult}
+use Rattle.raft_node.specs.raft_command.declared.replication.RequestId.{RequestId}
+use Rattle.raft_node.specs.raft_proposer.Leader.{granted_id}
+use Rattle.raft_node.specs.raft_steps.FollowingHandler.{memberships_in}
+use Rattle.raft_node.specs.raft_steps.Invariants.{IsSoundLed}
+use Rattle.raft_node.specs.raft_steps.LeaderHandler.{joined, last_proposed, leader_append_entries, proposed}
+use Rattle.raft_node.specs.raft_steps.LogHandler.{is_target_inflight, purge_log, try_purge_log}
+use Rattle.raft_node.specs.raft_steps.Parts.{led_of, under}
+use Rattle.raft_node.specs.raft_steps.Replies.{on_entry, purge_unless_inflight, send_next, take_reply, update_conflicting, update_failed_progress, update_leader_clock, update_matching, update_progress, update_success_progress}
+use Rattle.raft_node.specs.raft_steps.ReplicationHandler.{append_membership_led, commit_granted, initiate_replication, rebuild_progresses, rebuild_replication_streams, send_commands, try_commit_quorum_accepted, with_entry}
+use Rattle.raft_node.specs.raft_steps.ReplyRefusals.{refusals_of_acknowledged, refusals_of_answer, refusals_of_entry, refusals_of_result}
+use Rattle.raft_node.proofs.raft_steps_proofs.KeptCommit.{granted_fits}
+use Rattle.raft_node.proofs.raft_steps_proofs.KeptReplies.{clock_kept, noted_kept}
 use Rattle.proof_agreement.specs.Machine.{Setup}
-use Rattle.raft_store.specs.declared.entry.Entry.{Entry}
-use Rattle.raft_store.specs.Entries.{entry_meaning, members_of}
-use Rattle.raft_store.specs.Types.{WorldLeader, WorldMachine, WorldStore}
+use Rattle.raft_node.specs.raft_store.declared.entry.Entry.{Entry}
+use Rattle.raft_node.specs.raft_store.Entries.{entry_meaning, members_of}
+use Rattle.raft_node.specs.raft_store.Types.{WorldLeader, WorldMachine, WorldStore}
 use Rattle.proof_mirror.proofs.Sound.{all_fit}
 use Rattle.raft_node.specs.declared.node.Turn.{Turn}
-use Rattle.raft_calls.specs.Feeds.{WorldLed}
+use Rattle.raft_node.specs.raft_calls.Feeds.{WorldLed}
 use Rattle.proof_deeds.specs.Chains.{Reached, left_by}
 use Rattle.proof_deeds.specs.Images.{Ideal, number}
 use Rattle.proof_deeds.specs.Knows.{Knows, Stands}

@@ -6,40 +6,40 @@ use Rattle.std.specs.Ordering.{is_eq, is_ge, is_lt, nat_cmp}
 use Rattle.std.specs.Cmp.{tied_itself}
 use Rattle.std.proofs.lemmas.Bool.{and_parts, both_ways, cond_both}
 use Rattle.std.proofs.lemmas.Cmp.{nat_cmp_total}
-use Rattle.raft_state.specs.declared.ids.LogId.{LogId}
-use Rattle.raft_state.specs.declared.ids.Vote.{Vote}
-use Rattle.raft_state.specs.declared.membership.Members.{Members}
-use Rattle.raft_state.specs.Fits.{fits}
-use Rattle.raft_state.specs.Invariants.{IsSoundState}
-use Rattle.raft_state.specs.Log.{last, at}
-use Rattle.raft_state.specs.Members.{voter_ids, learner_ids}
-use Rattle.raft_state.specs.Order.{next, last_id_cmp, leader_id_cmp}
-use Rattle.raft_state.specs.Same.{nat_same}
-use Rattle.raft_state.specs.State.{by_last_leader, is_found, is_leader, is_leading}
-use Rattle.raft_state.proofs.StateLaws.{is_found_at}
-use Rattle.raft_state.proofs.Orders.{leader_total}
-use Rattle.raft_progress_entry.specs.declared.entry.ProgressEntry.{ProgressEntry}
-use Rattle.raft_progress_entry.specs.Entry.{empty}
-use Rattle.raft_command.specs.declared.config.EngineConfig.{EngineConfig}
-use Rattle.raft_error.specs.declared.error.EngineError.TheVariants.{IndexEnd, Spent}
-use Rattle.raft_steps.specs.Refusals.{refusals_of_spent, is_spent, refusals_of_lead, blank_is_at_end}
-use Rattle.raft_steps.specs.Invariants.{IsSound, IsSoundLed, LeaderFits}
-use Rattle.raft_proposer.specs.Leader.{leader_in}
-use Rattle.raft_steps.specs.LeaderHandler.{leader_append_entries, proposed}
-use Rattle.raft_steps.specs.Parts.{leading, under, with_state, on_core, on_leader}
-use Rattle.raft_progress.specs.Table.{get}
-use Rattle.raft_steps.specs.ReplicationHandler.{own_matched, with_entry, commit_granted, rebuild_replication_streams, initiate_replication, update_local_progress}
-use Rattle.raft_steps.specs.ServerStateHandler.{update_role}
-use Rattle.raft_steps.specs.Starts.{started_role, is_settled, lead_on, startup, leader_step_down, refusals_of_step_down}
-use Rattle.raft_steps.specs.VoteHandler.{become_following, begin_lead, lead_anew, become_leader, update_internal_server_state}
-use Rattle.raft_steps.proofs.Ends.{by_last_leader_ends}
-use Rattle.raft_steps.proofs.Kept.{TakesIds}
-use Rattle.raft_steps.proofs.KeptEngine.{internal_is_sound}
-use Rattle.raft_steps.proofs.KeptLead.{each_of}
-use Rattle.raft_steps.proofs.Unrefused.{second_fails}
+use Rattle.raft_node.specs.raft_state.declared.ids.LogId.{LogId}
+use Rattle.raft_node.specs.raft_state.declared.ids.Vote.{Vote}
+use Rattle.raft_node.specs.raft_state.declared.membership.Members.{Members}
+use Rattle.raft_node.specs.raft_state.Fits.{fits}
+use Rattle.raft_node.specs.raft_state.Invariants.{IsSoundState}
+use Rattle.raft_node.specs.raft_state.Log.{last, at}
+use Rattle.raft_node.specs.raft_state.Members.{voter_ids, learner_ids}
+use Rattle.raft_node.specs.raft_state.Order.{next, last_id_cmp, leader_id_cmp}
+use Rattle.raft_node.specs.raft_state.Same.{nat_same}
+use Rattle.raft_node.specs.raft_state.State.{by_last_leader, is_found, is_leader, is_leading}
+use Rattle.raft_node.proofs.raft_state_proofs.StateLaws.{is_found_at}
+use Rattle.raft_node.proofs.raft_state_proofs.Orders.{leader_total}
+use Rattle.raft_node.specs.raft_progress_entry.declared.entry.ProgressEntry.{ProgressEntry}
+use Rattle.raft_node.specs.raft_progress_entry.Entry.{empty}
+use Rattle.raft_node.specs.raft_command.declared.config.EngineConfig.{EngineConfig}
+use Rattle.raft_node.specs.raft_error.declared.error.EngineError.TheVariants.{IndexEnd, Spent}
+use Rattle.raft_node.specs.raft_steps.Refusals.{refusals_of_spent, is_spent, refusals_of_lead, blank_is_at_end}
+use Rattle.raft_node.specs.raft_steps.Invariants.{IsSound, IsSoundLed, LeaderFits}
+use Rattle.raft_node.specs.raft_proposer.Leader.{leader_in}
+use Rattle.raft_node.specs.raft_steps.LeaderHandler.{leader_append_entries, proposed}
+use Rattle.raft_node.specs.raft_steps.Parts.{leading, under, with_state, on_core, on_leader}
+use Rattle.raft_node.specs.raft_progress.Table.{get}
+use Rattle.raft_node.specs.raft_steps.ReplicationHandler.{own_matched, with_entry, commit_granted, rebuild_replication_streams, initiate_replication, update_local_progress}
+use Rattle.raft_node.specs.raft_steps.ServerStateHandler.{update_role}
+use Rattle.raft_node.specs.raft_steps.Starts.{started_role, is_settled, lead_on, startup, leader_step_down, refusals_of_step_down}
+use Rattle.raft_node.specs.raft_steps.VoteHandler.{become_following, begin_lead, lead_anew, become_leader, update_internal_server_state}
+use Rattle.raft_node.proofs.raft_steps_proofs.Ends.{by_last_leader_ends}
+use Rattle.raft_node.proofs.raft_steps_proofs.Kept.{TakesIds}
+use Rattle.raft_node.proofs.raft_steps_proofs.KeptEngine.{internal_is_sound}
+use Rattle.raft_node.proofs.raft_steps_proofs.KeptLead.{each_of}
+use Rattle.raft_node.proofs.raft_steps_proofs.Unrefused.{second_fails}
 use Rattle.proof_agreement.specs.Deeds.{BuildStreams, does, Leads}
-use Rattle.raft_store.specs.Entries.{entry_meaning}
-use Rattle.raft_store.specs.Types.{WorldStore, WorldMachine, WorldLeader}
+use Rattle.raft_node.specs.raft_store.Entries.{entry_meaning}
+use Rattle.raft_node.specs.raft_store.Types.{WorldStore, WorldMachine, WorldLeader}
 use Rattle.proof_mirror.specs.Ready.{Ordered, PendingLed, PendingIn, SearchFits}
 use Rattle.proof_mirror.proofs.Elections.{pending_internal}
 use Rattle.proof_mirror.proofs.Orders.{Orderly, in_order}
@@ -48,7 +48,7 @@ use Rattle.proof_mirror.proofs.Queued.{pending_role}
 use Rattle.proof_mirror.proofs.Replying.{pending_own}
 use Rattle.proof_mirror.proofs.Sends.{pending_rebuild}
 use Rattle.raft_node.specs.declared.node.Turn.{Turn}
-use Rattle.raft_calls.specs.Feeds.{WorldLed}
+use Rattle.raft_node.specs.raft_calls.Feeds.{WorldLed}
 use Rattle.proof_deeds.proofs.Noops.{anew_above}
 use Rattle.proof_deeds.specs.Chains.{Reached, Carried, left_by}
 use Rattle.proof_deeds.specs.Images.{Ideal, number, setup_of}

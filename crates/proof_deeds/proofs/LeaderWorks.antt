@@ -5,44 +5,44 @@ use Rattle.std.specs.Option.{option_map}
 use Rattle.std.specs.Ordering.{is_eq, is_gt, nat_cmp}
 use Rattle.std.proofs.lemmas.Bool.{and_parts}
 use Rattle.std.proofs.lemmas.Bool.Decides.{nat_tests}
-use Rattle.raft_state.specs.declared.ids.LogId.{LogId}
-use Rattle.raft_state.specs.declared.ids.Vote.{Vote}
-use Rattle.raft_state.specs.declared.membership.Members.{Members}
-use Rattle.raft_state.specs.Order.{last_id_cmp, vote_cmp}
-use Rattle.raft_state.specs.Same.{nat_same}
-use Rattle.raft_state.proofs.Orders.{is_equal}
-use Rattle.raft_error.specs.declared.error.EngineError.{EngineError}
-use Rattle.raft_error.specs.declared.error.EngineError.TheVariants.{UnknownTarget}
-use Rattle.raft_command.specs.declared.message.AppendEntriesResponse.{AppendEntriesResponse}
-use Rattle.raft_command.specs.declared.message.AppendEntriesResponse.TheVariants.{Conflict, HigherVote, PartialSuccess, Success}
-use Rattle.raft_command.specs.declared.message.SnapshotResponse.{SnapshotResponse}
-use Rattle.raft_command.specs.declared.replication.ReplicationResult.{ReplicationResult}
-use Rattle.raft_command.specs.declared.replication.ReplicationSessionId.{ReplicationSessionId}
-use Rattle.raft_command.specs.declared.replication.RequestId.{RequestId}
-use Rattle.raft_steps.specs.Engine.{as_uncommitted}
-use Rattle.raft_steps.specs.LeaderHandler.{leader_append_entries}
-use Rattle.raft_steps.specs.Parts.{leading, led_of}
-use Rattle.raft_steps.specs.Refusals.{refusals_of_counter_led, refusals_of_propose, refusals_of_update_vote}
-use Rattle.raft_steps.specs.Replies.{update_progress}
-use Rattle.raft_steps.specs.ReplyRefusals.{refusals_of_entry, refusals_of_progress, refusals_of_result}
-use Rattle.raft_steps.specs.ReplicationHandler.{initiate_replication}
-use Rattle.raft_steps.specs.VoteHandler.{update_vote}
-use Rattle.raft_steps.proofs.Leads.{vote_same}
-use Rattle.raft_steps.proofs.Unrefused.{neither, test_fails}
-use Rattle.raft_store.specs.declared.entry.Value.{Value}
-use Rattle.raft_store.specs.Entries.{entry_meaning}
-use Rattle.raft_store.specs.Types.{EngineView, WorldLeader, WorldMachine, WorldStore}
+use Rattle.raft_node.specs.raft_state.declared.ids.LogId.{LogId}
+use Rattle.raft_node.specs.raft_state.declared.ids.Vote.{Vote}
+use Rattle.raft_node.specs.raft_state.declared.membership.Members.{Members}
+use Rattle.raft_node.specs.raft_state.Order.{last_id_cmp, vote_cmp}
+use Rattle.raft_node.specs.raft_state.Same.{nat_same}
+use Rattle.raft_node.proofs.raft_state_proofs.Orders.{is_equal}
+use Rattle.raft_node.specs.raft_error.declared.error.EngineError.{EngineError}
+use Rattle.raft_node.specs.raft_error.declared.error.EngineError.TheVariants.{UnknownTarget}
+use Rattle.raft_node.specs.raft_command.declared.message.AppendEntriesResponse.{AppendEntriesResponse}
+use Rattle.raft_node.specs.raft_command.declared.message.AppendEntriesResponse.TheVariants.{Conflict, HigherVote, PartialSuccess, Success}
+use Rattle.raft_node.specs.raft_command.declared.message.SnapshotResponse.{SnapshotResponse}
+use Rattle.raft_node.specs.raft_command.declared.replication.ReplicationResult.{ReplicationResult}
+use Rattle.raft_node.specs.raft_command.declared.replication.ReplicationSessionId.{ReplicationSessionId}
+use Rattle.raft_node.specs.raft_command.declared.replication.RequestId.{RequestId}
+use Rattle.raft_node.specs.raft_steps.Engine.{as_uncommitted}
+use Rattle.raft_node.specs.raft_steps.LeaderHandler.{leader_append_entries}
+use Rattle.raft_node.specs.raft_steps.Parts.{leading, led_of}
+use Rattle.raft_node.specs.raft_steps.Refusals.{refusals_of_counter_led, refusals_of_propose, refusals_of_update_vote}
+use Rattle.raft_node.specs.raft_steps.Replies.{update_progress}
+use Rattle.raft_node.specs.raft_steps.ReplyRefusals.{refusals_of_entry, refusals_of_progress, refusals_of_result}
+use Rattle.raft_node.specs.raft_steps.ReplicationHandler.{initiate_replication}
+use Rattle.raft_node.specs.raft_steps.VoteHandler.{update_vote}
+use Rattle.raft_node.proofs.raft_steps_proofs.Leads.{vote_same}
+use Rattle.raft_node.proofs.raft_steps_proofs.Unrefused.{neither, test_fails}
+use Rattle.raft_node.specs.raft_store.declared.entry.Value.{Value}
+use Rattle.raft_node.specs.raft_store.Entries.{entry_meaning}
+use Rattle.raft_node.specs.raft_store.Types.{EngineView, WorldLeader, WorldMachine, WorldStore}
 use Rattle.proof_mirror.specs.Ready.{Ordered, PendingIn}
-use Rattle.raft_schedule.specs.declared.event.SkipReason.{SkipReason}
-use Rattle.raft_schedule.specs.declared.event.SkipReason.TheVariants.{NotOwnVote, StaleSession}
-use Rattle.raft_calls.specs.declared.message.Body.TheVariants as body
-use Rattle.raft_calls.specs.declared.message.Message.{Message}
-use Rattle.raft_calls.specs.declared.message.Origin.{Origin}
+use Rattle.raft_node.specs.raft_schedule.declared.event.SkipReason.{SkipReason}
+use Rattle.raft_node.specs.raft_schedule.declared.event.SkipReason.TheVariants.{NotOwnVote, StaleSession}
+use Rattle.raft_node.specs.raft_calls.declared.message.Body.TheVariants as body
+use Rattle.raft_node.specs.raft_calls.declared.message.Message.{Message}
+use Rattle.raft_node.specs.raft_calls.declared.message.Origin.{Origin}
 use Rattle.raft_node.specs.declared.node.Turn.{Turn}
-use Rattle.raft_calls.specs.Deliveries.{answered, led_call, progressed, take_append_reply, take_higher_vote, take_result, take_snapshot_reply, unled_number, with_machine, leads_in, same_session, skip_delivery}
-use Rattle.raft_calls.specs.Feeds.{WorldLed}
-use Rattle.raft_calls.specs.Held.{IsReady}
-use Rattle.raft_calls.specs.LeaderCalls.{failed, heartbeats_sent, inflight_to, proposed, request_of, skip_propose, value_entry}
+use Rattle.raft_node.specs.raft_calls.Deliveries.{answered, led_call, progressed, take_append_reply, take_higher_vote, take_result, take_snapshot_reply, unled_number, with_machine, leads_in, same_session, skip_delivery}
+use Rattle.raft_node.specs.raft_calls.Feeds.{WorldLed}
+use Rattle.raft_node.specs.raft_calls.Held.{IsReady}
+use Rattle.raft_node.specs.raft_calls.LeaderCalls.{failed, heartbeats_sent, inflight_to, proposed, request_of, skip_propose, value_entry}
 use Rattle.proof_deeds.specs.Chains.{Reached}
 use Rattle.proof_deeds.specs.Follows.{AcceptedUpTo, AppendAnswered, SnapshotAnswered, VoteTold}
 use Rattle.proof_deeds.specs.Images.{Ideal, setup_of}

@@ -1,11 +1,11 @@
 -- Leaders have votes above 0: so a node that has ideal streams has its own.
 use Rattle.std.proofs.Common.{ℕ, ◌<◌, ◌≡◌, ⊎_elim, true, List, [], ◌∷◌, arith, false, refl, sym, subst, Option, None, Some, true≢false}
-use Rattle.raft_command.specs.declared.replication.ReplicationSessionId.{ReplicationSessionId}
+use Rattle.raft_node.specs.raft_command.declared.replication.ReplicationSessionId.{ReplicationSessionId}
 use Rattle.proof_agreement.specs.Machine.{Setup, Includes}
 use Rattle.proof_agreement.specs.Stores.{Message, Store, Stores, AppendRequest, SnapshotRequest, empty}
 use Rattle.proof_agreement.specs.Deeds.{Deed, SaveVote, Win, FollowByAppend, FollowBySnapshot, RequestVotes, AnswerVote, Initialize, LeaderAppend, FollowerAppend, TruncateConflict, TruncateForSnapshot, Purge, BuildStreams, EndStreams, RecordEstablished, SendAppend, SendSnapshot, AcceptAppend, AcceptSnapshot, CommitByQuorum, FollowerCommit, LeaderCommit, Apply, InstallSnapshot, Note, BuildSnapshot, DropNote, ForgetSaved, Restart, RestartSaved, MayDo, AllMayDo, Streams, put, say, does, run_all}
 use Rattle.proof_agreement.proofs.Logs.{updated_all}
-use Rattle.raft_store.specs.declared.entry.Entry.{Entry}
+use Rattle.raft_node.specs.raft_store.declared.entry.Entry.{Entry}
 use Rattle.proof_deeds.specs.Chains.{Reached}
 use Rattle.proof_deeds.specs.Follows.{StreamsAre}
 use Rattle.proof_deeds.specs.Images.{Ideal}

@@ -4,56 +4,56 @@ use Rattle.std.specs.List.{AllByRecursion}
 use Rattle.std.specs.Ordering.{is_eq, is_gt, nat_cmp}
 use Rattle.std.proofs.Common.{subst}
 use Rattle.std.proofs.lemmas.Bool.{and_parts}
-use Rattle.raft_state.specs.declared.ids.LogId.{LogId}
-use Rattle.raft_state.specs.declared.ids.Vote.{Vote}
-use Rattle.raft_state.specs.declared.membership.SnapshotMeta.{SnapshotMeta}
-use Rattle.raft_state.specs.declared.state.ServerState.{ServerState}
-use Rattle.raft_state.specs.declared.state.ServerState.TheVariants as role
-use Rattle.raft_state.specs.Log.{at, last}
-use Rattle.raft_state.specs.Members.{contains}
-use Rattle.raft_state.specs.Order.{last_id_cmp, leader_id_cmp, next, vote_cmp}
-use Rattle.raft_state.specs.Policy.{should_snapshot}
-use Rattle.raft_state.specs.Same.{nat_same}
-use Rattle.raft_state.specs.State.{accept, commit, commits, has_log_id, is_leader, is_leading, truncate, undoes_membership}
-use Rattle.raft_state.proofs.LogLists.{each_append}
-use Rattle.raft_state.proofs.Orders.{both_and, is_equal}
-use Rattle.raft_progress_entry.specs.declared.entry.ProgressEntry.{ProgressEntry}
-use Rattle.raft_progress.specs.Quorum.{is_quorum}
-use Rattle.raft_command.specs.declared.command.Command.TheVariants as command
-use Rattle.raft_command.specs.declared.config.EngineConfig.{EngineConfig}
-use Rattle.raft_command.specs.declared.message.Token.{Token}
-use Rattle.raft_command.specs.declared.message.VoteRequest.{VoteRequest}
-use Rattle.raft_command.specs.declared.message.VoteResponse.{VoteResponse}
-use Rattle.raft_command.specs.declared.sm.CommandPayload.TheVariants.{BuildSnapshot, InstallFullSnapshot}
-use Rattle.raft_command.specs.Push.{committed_upto, ordered, with_command}
-use Rattle.raft_command.specs.Queue.{queued}
-use Rattle.raft_proposer.specs.Candidate.{as_committed, candidate_of, grant_by, into_leader, is_granted}
-use Rattle.raft_steps.specs.Commit.{commit_by}
-use Rattle.raft_steps.specs.Engine.{as_uncommitted, default_log_id, elect, handle_vote_resp, initialize, is_granted_to, lead_by_votes, may_establish, take_grant, take_rejection}
-use Rattle.raft_steps.specs.EstablishHandler.{outvotes}
-use Rattle.raft_steps.specs.FollowingHandler.{commit_entries, commit_target, do_append_entries, ensure_log_consecutive, holds_previous, memberships_in, new_entries, truncate_for, truncate_logs, with_entries}
-use Rattle.raft_steps.specs.FollowingHandler as following
-use Rattle.raft_steps.specs.Installs.{handle_install_full_snapshot, has_other_at, held_upto, install_full_snapshot, install_upto, installs, replaces_log, truncate_contradicted, with_memberships_of}
-use Rattle.raft_steps.specs.Invariants.{CandidateFits, IsSound}
-use Rattle.raft_steps.specs.Laws.{later}
-use Rattle.raft_steps.specs.LeaderHandler.{leader_append_entries}
-use Rattle.raft_steps.specs.LogHandler.{is_target_inflight, purge_log, schedule_policy_based_purge, try_purge_log, update_purge_upto}
-use Rattle.raft_steps.specs.Parts.{Core, leading, on_core, on_leader, then_command, with_state}
-use Rattle.raft_steps.specs.Refusals.{rows_in}
-use Rattle.raft_steps.specs.ReplicationHandler.{rebuild_replication_streams}
-use Rattle.raft_steps.specs.Requests.{append_entries, follow, handle_append_entries, handle_commit_entries, handle_vote_req, refuses_vote_req}
-use Rattle.raft_steps.specs.ServerStateHandler.{role_commands, update_role}
-use Rattle.raft_steps.specs.SnapshotCalls.{built, finish_building_snapshot, trigger_purge_log}
-use Rattle.raft_steps.specs.SnapshotHandler.{is_newer_snapshot, snapshot_where_due, trigger_snapshot, update_snapshot}
-use Rattle.raft_steps.specs.Starts.{is_settled, lead_on, leader_step_down, startup}
-use Rattle.raft_steps.specs.VoteHandler.{become_following, become_leader, lead_anew, rejects_vote, take_vote, update_internal_server_state, update_vote}
-use Rattle.raft_steps.proofs.Kept.{either, either_option}
-use Rattle.raft_steps.proofs.Leads.{vote_same}
-use Rattle.raft_store.specs.declared.config.WorldConfig.{WorldConfig}
-use Rattle.raft_store.specs.declared.entry.Entry.{Entry}
-use Rattle.raft_store.specs.Entries.{entry_meaning}
-use Rattle.raft_store.specs.Types.{WorldCandidate, WorldCommand, WorldMachine, WorldSnapshot}
-use Rattle.raft_calls.specs.Feeds.{WorldLed}
+use Rattle.raft_node.specs.raft_state.declared.ids.LogId.{LogId}
+use Rattle.raft_node.specs.raft_state.declared.ids.Vote.{Vote}
+use Rattle.raft_node.specs.raft_state.declared.membership.SnapshotMeta.{SnapshotMeta}
+use Rattle.raft_node.specs.raft_state.declared.state.ServerState.{ServerState}
+use Rattle.raft_node.specs.raft_state.declared.state.ServerState.TheVariants as role
+use Rattle.raft_node.specs.raft_state.Log.{at, last}
+use Rattle.raft_node.specs.raft_state.Members.{contains}
+use Rattle.raft_node.specs.raft_state.Order.{last_id_cmp, leader_id_cmp, next, vote_cmp}
+use Rattle.raft_node.specs.raft_state.Policy.{should_snapshot}
+use Rattle.raft_node.specs.raft_state.Same.{nat_same}
+use Rattle.raft_node.specs.raft_state.State.{accept, commit, commits, has_log_id, is_leader, is_leading, truncate, undoes_membership}
+use Rattle.raft_node.proofs.raft_state_proofs.LogLists.{each_append}
+use Rattle.raft_node.proofs.raft_state_proofs.Orders.{both_and, is_equal}
+use Rattle.raft_node.specs.raft_progress_entry.declared.entry.ProgressEntry.{ProgressEntry}
+use Rattle.raft_node.specs.raft_progress.Quorum.{is_quorum}
+use Rattle.raft_node.specs.raft_command.declared.command.Command.TheVariants as command
+use Rattle.raft_node.specs.raft_command.declared.config.EngineConfig.{EngineConfig}
+use Rattle.raft_node.specs.raft_command.declared.message.Token.{Token}
+use Rattle.raft_node.specs.raft_command.declared.message.VoteRequest.{VoteRequest}
+use Rattle.raft_node.specs.raft_command.declared.message.VoteResponse.{VoteResponse}
+use Rattle.raft_node.specs.raft_command.declared.sm.CommandPayload.TheVariants.{BuildSnapshot, InstallFullSnapshot}
+use Rattle.raft_node.specs.raft_command.Push.{committed_upto, ordered, with_command}
+use Rattle.raft_node.specs.raft_command.Queue.{queued}
+use Rattle.raft_node.specs.raft_proposer.Candidate.{as_committed, candidate_of, grant_by, into_leader, is_granted}
+use Rattle.raft_node.specs.raft_steps.Commit.{commit_by}
+use Rattle.raft_node.specs.raft_steps.Engine.{as_uncommitted, default_log_id, elect, handle_vote_resp, initialize, is_granted_to, lead_by_votes, may_establish, take_grant, take_rejection}
+use Rattle.raft_node.specs.raft_steps.EstablishHandler.{outvotes}
+use Rattle.raft_node.specs.raft_steps.FollowingHandler.{commit_entries, commit_target, do_append_entries, ensure_log_consecutive, holds_previous, memberships_in, new_entries, truncate_for, truncate_logs, with_entries}
+use Rattle.raft_node.specs.raft_steps.FollowingHandler as following
+use Rattle.raft_node.specs.raft_steps.Installs.{handle_install_full_snapshot, has_other_at, held_upto, install_full_snapshot, install_upto, installs, replaces_log, truncate_contradicted, with_memberships_of}
+use Rattle.raft_node.specs.raft_steps.Invariants.{CandidateFits, IsSound}
+use Rattle.raft_node.specs.raft_steps.Laws.{later}
+use Rattle.raft_node.specs.raft_steps.LeaderHandler.{leader_append_entries}
+use Rattle.raft_node.specs.raft_steps.LogHandler.{is_target_inflight, purge_log, schedule_policy_based_purge, try_purge_log, update_purge_upto}
+use Rattle.raft_node.specs.raft_steps.Parts.{Core, leading, on_core, on_leader, then_command, with_state}
+use Rattle.raft_node.specs.raft_steps.Refusals.{rows_in}
+use Rattle.raft_node.specs.raft_steps.ReplicationHandler.{rebuild_replication_streams}
+use Rattle.raft_node.specs.raft_steps.Requests.{append_entries, follow, handle_append_entries, handle_commit_entries, handle_vote_req, refuses_vote_req}
+use Rattle.raft_node.specs.raft_steps.ServerStateHandler.{role_commands, update_role}
+use Rattle.raft_node.specs.raft_steps.SnapshotCalls.{built, finish_building_snapshot, trigger_purge_log}
+use Rattle.raft_node.specs.raft_steps.SnapshotHandler.{is_newer_snapshot, snapshot_where_due, trigger_snapshot, update_snapshot}
+use Rattle.raft_node.specs.raft_steps.Starts.{is_settled, lead_on, leader_step_down, startup}
+use Rattle.raft_node.specs.raft_steps.VoteHandler.{become_following, become_leader, lead_anew, rejects_vote, take_vote, update_internal_server_state, update_vote}
+use Rattle.raft_node.proofs.raft_steps_proofs.Kept.{either, either_option}
+use Rattle.raft_node.proofs.raft_steps_proofs.Leads.{vote_same}
+use Rattle.raft_node.specs.raft_store.declared.config.WorldConfig.{WorldConfig}
+use Rattle.raft_node.specs.raft_store.declared.entry.Entry.{Entry}
+use Rattle.raft_node.specs.raft_store.Entries.{entry_meaning}
+use Rattle.raft_node.specs.raft_store.Types.{WorldCandidate, WorldCommand, WorldMachine, WorldSnapshot}
+use Rattle.raft_node.specs.raft_calls.Feeds.{WorldLed}
 
 abbrev WorldCore : Type 0
 WorldCore = Core WorldConfig ℕ (Unit {0}) Entry ℕ ℕ (List Entry)

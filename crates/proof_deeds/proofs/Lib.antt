@@ -1,3 +1,16 @@
+pub use Rattle.raft_node.proofs.raft_state_proofs as raft_state_proofs
+pub use Rattle.raft_node.proofs.raft_error_proofs as raft_error_proofs
+pub use Rattle.raft_node.proofs.raft_progress_entry_proofs as raft_progress_entry_proofs
+pub use Rattle.raft_node.proofs.raft_progress_proofs as raft_progress_proofs
+pub use Rattle.raft_node.proofs.raft_command_proofs as raft_command_proofs
+pub use Rattle.raft_node.proofs.raft_proposer_proofs as raft_proposer_proofs
+pub use Rattle.raft_node.proofs.raft_steps_proofs as raft_steps_proofs
+pub use Rattle.raft_node.proofs.raft_store_proofs as raft_store_proofs
+pub use Rattle.raft_node.proofs.raft_schedule_proofs as raft_schedule_proofs
+pub use Rattle.raft_node.proofs.raft_calls_proofs as raft_calls_proofs
+pub use Rattle.raft_node.proofs as raft_node_proofs
+pub use Rattle.proof_mirror.proofs as proof_mirror_proofs
+pub use Rattle.proof_agreement.proofs as proof_agreement_proofs
 -- In reading order. What an ideal world is, and how it grows
 pub mod Worlds  -- what deeds leave as it is, and what follows the world stays followed
 pub mod Numbers  -- leader ids as numbers, in their order

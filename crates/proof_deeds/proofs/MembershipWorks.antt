@@ -3,24 +3,24 @@ use Rattle.std.proofs.Common.{ℕ, ◌<◌, ◌≡◌, List, [], ◌∷◌, refl
 use Rattle.std.specs.Prelude.{is_some, if◌then◌else◌, IfSome}
 use Rattle.std.specs.Ordering.{nat_cmp}
 use Rattle.std.proofs.lemmas.Cmp.{nat_cmp_total}
-use Rattle.raft_state.specs.declared.membership.Members.{Members}
-use Rattle.raft_state.specs.Same.{nat_same}
-use Rattle.raft_steps.specs.Conditions.{MayPropose}
-use Rattle.raft_steps.specs.LeaderHandler.{leader_append_entries}
-use Rattle.raft_steps.specs.Parts.{led_of}
-use Rattle.raft_steps.specs.Refusals.{refusals_of_propose}
-use Rattle.raft_steps.specs.Starts.{leader_step_down, refusals_of_step_down}
-use Rattle.raft_store.specs.declared.entry.Entry.{Entry}
-use Rattle.raft_store.specs.Entries.{entry_meaning}
-use Rattle.raft_store.specs.Types.{EngineView, WorldLeader, WorldStore}
+use Rattle.raft_node.specs.raft_state.declared.membership.Members.{Members}
+use Rattle.raft_node.specs.raft_state.Same.{nat_same}
+use Rattle.raft_node.specs.raft_steps.Conditions.{MayPropose}
+use Rattle.raft_node.specs.raft_steps.LeaderHandler.{leader_append_entries}
+use Rattle.raft_node.specs.raft_steps.Parts.{led_of}
+use Rattle.raft_node.specs.raft_steps.Refusals.{refusals_of_propose}
+use Rattle.raft_node.specs.raft_steps.Starts.{leader_step_down, refusals_of_step_down}
+use Rattle.raft_node.specs.raft_store.declared.entry.Entry.{Entry}
+use Rattle.raft_node.specs.raft_store.Entries.{entry_meaning}
+use Rattle.raft_node.specs.raft_store.Types.{EngineView, WorldLeader, WorldStore}
 use Rattle.proof_mirror.specs.Ready.{Ordered}
 use Rattle.proof_mirror.proofs.Starting.{pending_step_down}
-use Rattle.raft_schedule.specs.declared.event.SkipReason.{SkipReason}
-use Rattle.raft_schedule.specs.declared.event.SkipReason.TheVariants.{NotLeader}
+use Rattle.raft_node.specs.raft_schedule.declared.event.SkipReason.{SkipReason}
+use Rattle.raft_node.specs.raft_schedule.declared.event.SkipReason.TheVariants.{NotLeader}
 use Rattle.raft_node.specs.declared.node.Turn.{Turn}
-use Rattle.raft_calls.specs.Held.{IsReady}
-use Rattle.raft_calls.specs.LeaderCalls.{skip_step_down, stepped_down}
-use Rattle.raft_calls.specs.Memberships.{members_with, membership_changed, membership_entry, skip_change}
+use Rattle.raft_node.specs.raft_calls.Held.{IsReady}
+use Rattle.raft_node.specs.raft_calls.LeaderCalls.{skip_step_down, stepped_down}
+use Rattle.raft_node.specs.raft_calls.Memberships.{members_with, membership_changed, membership_entry, skip_change}
 use Rattle.proof_deeds.specs.Chains.{Reached}
 use Rattle.proof_deeds.specs.Images.{Ideal, setup_of}
 use Rattle.proof_deeds.proofs.Calls.{CallLaws, WorldState}
@@ -29,9 +29,9 @@ use Rattle.proof_deeds.proofs.LeaderEvents.{membership_pending}
 use Rattle.proof_deeds.proofs.LeaderLaws.{ordered_by}
 use Rattle.proof_deeds.proofs.LeaderWorks.{at_work, call_works, led_works}
 use Rattle.proof_deeds.proofs.Quorums.{means_setup}
-use Rattle.raft_calls.proofs.LeaderReady.{change_may}
+use Rattle.raft_node.proofs.raft_calls_proofs.LeaderReady.{change_may}
 use Rattle.std.specs.Option.{option_map}
-use Rattle.raft_calls.specs.Feeds.{WorldLed}
+use Rattle.raft_node.specs.raft_calls.Feeds.{WorldLed}
 
 -- a node that leads
 leads_of : (o : Option WorldLeader) → ◌≡◌ {A = Option SkipReason} (if is_some o then None else Some NotLeader) None → (l : WorldLeader) × (o ≡ Some l)

@@ -4,60 +4,60 @@ use Rattle.std.proofs.Common.{ℕ, ◌<◌, ◌≡◌, inl, inr, Bool, true, fal
 use Rattle.std.specs.Prelude.{IfSome, is_none, if◌then◌else◌, ◌&&◌, ◌==◌}
 use Rattle.std.specs.Ordering.{nat_cmp}
 use Rattle.std.specs.Result.{is_ok}
-use Rattle.raft_state.specs.declared.ids.LogId.{LogId}
-use Rattle.raft_state.specs.declared.membership.Members.{Members}
-use Rattle.raft_state.specs.Log.{last}
-use Rattle.raft_state.specs.Members.{is_voter}
-use Rattle.raft_state.specs.Order.{next}
-use Rattle.raft_state.specs.State.{is_initialized}
-use Rattle.raft_error.specs.Number.{first_refusal, number_of}
-use Rattle.raft_progress.specs.Quorum.{is_quorum}
-use Rattle.raft_progress.specs.Table.{get}
-use Rattle.raft_error.specs.declared.error.EngineError.{EngineError}
-use Rattle.raft_error.specs.declared.error.EngineError.TheVariants.{CounterEnd, IndexEnd, NotAllowed, NotInMembers, Spent, TermEnd, UnknownTarget}
-use Rattle.raft_command.specs.Message.{is_granted_to}
-use Rattle.raft_command.specs.declared.config.EngineConfig.{EngineConfig}
-use Rattle.raft_command.specs.declared.message.VoteRequest.{VoteRequest}
-use Rattle.raft_command.specs.declared.message.VoteResponse.{VoteResponse}
-use Rattle.raft_steps.specs.Refusals.{refusals_of_counter, refusals_of_elect, refusals_of_grant, refusals_of_initialize, refusals_of_reply_of, refusals_of_spent, refusals_of_trigger_snapshot, refusals_of_vote_resp, blank_is_at_end, is_counter_end, is_near_end, is_spent}
-use Rattle.raft_proposer.specs.Joint.{u64_max}
-use Rattle.raft_proposer.specs.Candidate.{grant_by, is_granted}
-use Rattle.raft_steps.specs.Engine.{elect, initialize, may_establish}
-use Rattle.raft_steps.specs.InstallRefusals.{refusals_of_install}
-use Rattle.raft_steps.specs.Installs.{handle_install_full_snapshot}
-use Rattle.raft_steps.specs.Parts.{on_core}
-use Rattle.raft_steps.specs.RequestRefusals.{refusals_of_append, refusals_of_commit, refusals_of_vote_req}
-use Rattle.raft_steps.specs.Requests.{append_answer, handle_commit_entries, refuses_vote_req}
-use Rattle.raft_steps.specs.SnapshotCalls.{finish_building_snapshot, trigger_purge_log}
-use Rattle.raft_steps.specs.SnapshotHandler.{trigger_snapshot}
-use Rattle.raft_steps.specs.Starts.{refusals_of_startup, startup}
-use Rattle.raft_steps.specs.VoteHandler.{rejects_vote}
-use Rattle.raft_store.specs.Built.{meta_of}
-use Rattle.raft_store.specs.declared.entry.Entry.{Entry}
-use Rattle.raft_store.specs.Entries.{entry_meaning}
-use Rattle.raft_store.specs.Types.{WorldCandidate, WorldMachine, WorldStore, EngineView}
+use Rattle.raft_node.specs.raft_state.declared.ids.LogId.{LogId}
+use Rattle.raft_node.specs.raft_state.declared.membership.Members.{Members}
+use Rattle.raft_node.specs.raft_state.Log.{last}
+use Rattle.raft_node.specs.raft_state.Members.{is_voter}
+use Rattle.raft_node.specs.raft_state.Order.{next}
+use Rattle.raft_node.specs.raft_state.State.{is_initialized}
+use Rattle.raft_node.specs.raft_error.Number.{first_refusal, number_of}
+use Rattle.raft_node.specs.raft_progress.Quorum.{is_quorum}
+use Rattle.raft_node.specs.raft_progress.Table.{get}
+use Rattle.raft_node.specs.raft_error.declared.error.EngineError.{EngineError}
+use Rattle.raft_node.specs.raft_error.declared.error.EngineError.TheVariants.{CounterEnd, IndexEnd, NotAllowed, NotInMembers, Spent, TermEnd, UnknownTarget}
+use Rattle.raft_node.specs.raft_command.Message.{is_granted_to}
+use Rattle.raft_node.specs.raft_command.declared.config.EngineConfig.{EngineConfig}
+use Rattle.raft_node.specs.raft_command.declared.message.VoteRequest.{VoteRequest}
+use Rattle.raft_node.specs.raft_command.declared.message.VoteResponse.{VoteResponse}
+use Rattle.raft_node.specs.raft_steps.Refusals.{refusals_of_counter, refusals_of_elect, refusals_of_grant, refusals_of_initialize, refusals_of_reply_of, refusals_of_spent, refusals_of_trigger_snapshot, refusals_of_vote_resp, blank_is_at_end, is_counter_end, is_near_end, is_spent}
+use Rattle.raft_node.specs.raft_proposer.Joint.{u64_max}
+use Rattle.raft_node.specs.raft_proposer.Candidate.{grant_by, is_granted}
+use Rattle.raft_node.specs.raft_steps.Engine.{elect, initialize, may_establish}
+use Rattle.raft_node.specs.raft_steps.InstallRefusals.{refusals_of_install}
+use Rattle.raft_node.specs.raft_steps.Installs.{handle_install_full_snapshot}
+use Rattle.raft_node.specs.raft_steps.Parts.{on_core}
+use Rattle.raft_node.specs.raft_steps.RequestRefusals.{refusals_of_append, refusals_of_commit, refusals_of_vote_req}
+use Rattle.raft_node.specs.raft_steps.Requests.{append_answer, handle_commit_entries, refuses_vote_req}
+use Rattle.raft_node.specs.raft_steps.SnapshotCalls.{finish_building_snapshot, trigger_purge_log}
+use Rattle.raft_node.specs.raft_steps.SnapshotHandler.{trigger_snapshot}
+use Rattle.raft_node.specs.raft_steps.Starts.{refusals_of_startup, startup}
+use Rattle.raft_node.specs.raft_steps.VoteHandler.{rejects_vote}
+use Rattle.raft_node.specs.raft_store.Built.{meta_of}
+use Rattle.raft_node.specs.raft_store.declared.entry.Entry.{Entry}
+use Rattle.raft_node.specs.raft_store.Entries.{entry_meaning}
+use Rattle.raft_node.specs.raft_store.Types.{WorldCandidate, WorldMachine, WorldStore, EngineView}
 use Rattle.proof_mirror.specs.Ready.{Ordered}
-use Rattle.raft_schedule.specs.declared.event.Start.{Start}
-use Rattle.raft_schedule.specs.declared.event.Start.TheVariants.{Plain, Saved, Bare}
+use Rattle.raft_node.specs.raft_schedule.declared.event.Start.{Start}
+use Rattle.raft_node.specs.raft_schedule.declared.event.Start.TheVariants.{Plain, Saved, Bare}
 use Rattle.raft_node.specs.declared.act.Act.{Act}
 use Rattle.raft_node.specs.declared.act.Act.TheVariants.{ChangeLearners, ChangeMembership, Elect, Fail, FinishSnapshot, Initialize, Propose, Read, Restart, SendHeartbeat, StepDown, Stop, Take, TriggerPurge, TriggerSnapshot}
-use Rattle.raft_calls.specs.declared.message.Body.{Body}
-use Rattle.raft_calls.specs.declared.message.Body.TheVariants as body
-use Rattle.raft_calls.specs.declared.message.Message.{Message}
-use Rattle.raft_calls.specs.declared.message.Origin.{Origin}
+use Rattle.raft_node.specs.raft_calls.declared.message.Body.{Body}
+use Rattle.raft_node.specs.raft_calls.declared.message.Body.TheVariants as body
+use Rattle.raft_node.specs.raft_calls.declared.message.Message.{Message}
+use Rattle.raft_node.specs.raft_calls.declared.message.Origin.{Origin}
 use Rattle.raft_node.specs.declared.node.Turn.{Turn}
 use Rattle.raft_node.specs.declared.given.Given.{Given}
-use Rattle.raft_calls.specs.Deliveries.{answered, appended, deliver, reply_token, take_append, take_commit, vote_replied, vote_requested, with_machine}
+use Rattle.raft_node.specs.raft_calls.Deliveries.{answered, appended, deliver, reply_token, take_append, take_commit, vote_replied, vote_requested, with_machine}
 use Rattle.raft_node.specs.Events.{calls_at, turn_of}
-use Rattle.raft_calls.specs.Elections.{elected, first_entry}
-use Rattle.raft_calls.specs.Memberships.{groups_in}
+use Rattle.raft_node.specs.raft_calls.Elections.{elected, first_entry}
+use Rattle.raft_node.specs.raft_calls.Memberships.{groups_in}
 use Rattle.raft_node.specs.Net.{NodeView, Records}
 use Rattle.raft_node.specs.Snapshots.{kept_built}
-use Rattle.raft_calls.specs.Snapshots.{told_built}
+use Rattle.raft_node.specs.raft_calls.Snapshots.{told_built}
 use Rattle.raft_node.specs.Safety.{IsOtherRefusal}
-use Rattle.raft_calls.specs.Starts.{begun_anew, resumed}
+use Rattle.raft_node.specs.raft_calls.Starts.{begun_anew, resumed}
 use Rattle.raft_node.specs.Starts.{engine_on, unsaved}
-use Rattle.raft_calls.proofs.StartReady.{begun_one}
+use Rattle.raft_node.proofs.raft_calls_proofs.StartReady.{begun_one}
 use Rattle.proof_deeds.specs.Chains.{Reached}
 use Rattle.proof_deeds.specs.Images.{Ideal, setup_of}
 use Rattle.proof_deeds.specs.Knows.{Delivered}

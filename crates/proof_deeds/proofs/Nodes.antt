@@ -6,7 +6,7 @@ use Rattle.std.proofs.lemmas.Bool.Decides.{nat_tests}
 use Rattle.std.proofs.lemmas.List.Folds.{find_at}
 use Rattle.std.proofs.lemmas.Option.{slice_get_past}
 use Rattle.proof_agreement.specs.Machine.{Setup}
-use Rattle.raft_store.specs.declared.entry.Entry.{Entry}
+use Rattle.raft_node.specs.raft_store.declared.entry.Entry.{Entry}
 use Rattle.raft_node.specs.Events.{place_of}
 use Rattle.raft_node.specs.Execute.{effects}
 use Rattle.raft_node.specs.Net.{NodeView, Records, node_at}

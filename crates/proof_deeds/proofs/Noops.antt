@@ -5,26 +5,26 @@ use Rattle.std.specs.Prelude.{IfSome, nat_eq}
 use Rattle.std.specs.Option.{option_to_list}
 use Rattle.std.specs.Ordering.{is_eq, nat_cmp}
 use Rattle.std.proofs.lemmas.Bool.{cond_both}
-use Rattle.raft_state.specs.declared.ids.LogId.{LogId}
-use Rattle.raft_state.specs.declared.ids.Vote.{Vote}
-use Rattle.raft_state.specs.Invariants.{first_index}
-use Rattle.raft_state.specs.Log.{at, last}
-use Rattle.raft_state.specs.Order.{leader_id_cmp, next}
-use Rattle.raft_state.specs.Same.{leader_id_same, nat_same}
-use Rattle.raft_state.specs.State.{by_last_leader, ends_of_leader, first_of}
-use Rattle.raft_state.proofs.LogLists.{Has, at_has, run_low}
-use Rattle.raft_state.proofs.Orders.{is_equal}
-use Rattle.raft_proposer.specs.Leader.{blank_id}
-use Rattle.raft_steps.proofs.Ends.{by_last_leader_ends}
-use Rattle.raft_steps.proofs.KeptAppend.{has_at}
-use Rattle.raft_steps.proofs.Room.{find_has}
+use Rattle.raft_node.specs.raft_state.declared.ids.LogId.{LogId}
+use Rattle.raft_node.specs.raft_state.declared.ids.Vote.{Vote}
+use Rattle.raft_node.specs.raft_state.Invariants.{first_index}
+use Rattle.raft_node.specs.raft_state.Log.{at, last}
+use Rattle.raft_node.specs.raft_state.Order.{leader_id_cmp, next}
+use Rattle.raft_node.specs.raft_state.Same.{leader_id_same, nat_same}
+use Rattle.raft_node.specs.raft_state.State.{by_last_leader, ends_of_leader, first_of}
+use Rattle.raft_node.proofs.raft_state_proofs.LogLists.{Has, at_has, run_low}
+use Rattle.raft_node.proofs.raft_state_proofs.Orders.{is_equal}
+use Rattle.raft_node.specs.raft_proposer.Leader.{blank_id}
+use Rattle.raft_node.proofs.raft_steps_proofs.Ends.{by_last_leader_ends}
+use Rattle.raft_node.proofs.raft_steps_proofs.KeptAppend.{has_at}
+use Rattle.raft_node.proofs.raft_steps_proofs.Room.{find_has}
 use Rattle.proof_agreement.specs.Deeds.{Leads, run_all}
 use Rattle.proof_agreement.specs.Machine.{Includes, Setup, last_leader, start}
 use Rattle.proof_agreement.specs.Stores.{DecidedCommit, entry_at, whole}
 use Rattle.proof_agreement.proofs.StoresTheorems as theorems
-use Rattle.raft_store.specs.declared.entry.Entry.{Entry}
-use Rattle.raft_store.specs.Entries.{entry_meaning}
-use Rattle.raft_store.specs.Types.{WorldStore}
+use Rattle.raft_node.specs.raft_store.declared.entry.Entry.{Entry}
+use Rattle.raft_node.specs.raft_store.Entries.{entry_meaning}
+use Rattle.raft_node.specs.raft_store.Types.{WorldStore}
 use Rattle.proof_mirror.specs.Ready.{InStep, IsStored}
 use Rattle.proof_mirror.proofs.Shape.{shaped_of}
 use Rattle.proof_deeds.specs.Chains.{Does, Reached}

@@ -12,32 +12,32 @@ use Rattle.std.proofs.lemmas.Cmp.{nat_cmp_total}
 use Rattle.std.proofs.lemmas.List.{drop-map, length-map, take-map}
 use Rattle.std.proofs.lemmas.Option.{slice_get_within, get_or_from_slice_get}
 use Rattle.std.proofs.Math.Seq.{take-append_seam}
-use Rattle.raft_state.specs.declared.ids.LogId.{LogId}
-use Rattle.raft_state.specs.Fits.{fits, is_below, is_within}
-use Rattle.raft_state.specs.Invariants.{IsSoundState}
-use Rattle.raft_state.specs.Log.{at, last}
-use Rattle.raft_state.specs.Order.{last_id_cmp, next}
-use Rattle.raft_state.specs.Same.{nat_same}
-use Rattle.raft_state.specs.State.{is_found}
-use Rattle.raft_state.proofs.Orders.{last_total}
-use Rattle.raft_steps.specs.SnapshotHandler.{is_newer_snapshot}
+use Rattle.raft_node.specs.raft_state.declared.ids.LogId.{LogId}
+use Rattle.raft_node.specs.raft_state.Fits.{fits, is_below, is_within}
+use Rattle.raft_node.specs.raft_state.Invariants.{IsSoundState}
+use Rattle.raft_node.specs.raft_state.Log.{at, last}
+use Rattle.raft_node.specs.raft_state.Order.{last_id_cmp, next}
+use Rattle.raft_node.specs.raft_state.Same.{nat_same}
+use Rattle.raft_node.specs.raft_state.State.{is_found}
+use Rattle.raft_node.proofs.raft_state_proofs.Orders.{last_total}
+use Rattle.raft_node.specs.raft_steps.SnapshotHandler.{is_newer_snapshot}
 use Rattle.proof_agreement.specs.Machine.{Setup}
 use Rattle.proof_agreement.specs.Machine as machine
 use Rattle.proof_agreement.specs.Stores.{whole, entry_at}
 use Rattle.proof_agreement.proofs.StoresBridge.{front_low, ids_rise}
 use Rattle.proof_agreement.proofs.StoresFollow.{StoreOk, StoresFollow}
 use Rattle.proof_agreement.proofs.WholeLogs.{get_left}
-use Rattle.raft_store.specs.declared.entry.Entry.{Entry}
-use Rattle.raft_store.specs.Built.{meta_of}
-use Rattle.raft_store.specs.Entries.{entry_meaning}
-use Rattle.raft_store.specs.Mirror.{map_ids}
-use Rattle.raft_store.specs.Store as store
-use Rattle.raft_store.specs.Types.{WorldStore}
-use Rattle.raft_store.proofs.Lists.{Run, last_more}
+use Rattle.raft_node.specs.raft_store.declared.entry.Entry.{Entry}
+use Rattle.raft_node.specs.raft_store.Built.{meta_of}
+use Rattle.raft_node.specs.raft_store.Entries.{entry_meaning}
+use Rattle.raft_node.specs.raft_store.Mirror.{map_ids}
+use Rattle.raft_node.specs.raft_store.Store as store
+use Rattle.raft_node.specs.raft_store.Types.{WorldStore}
+use Rattle.raft_node.proofs.raft_store_proofs.Lists.{Run, last_more}
 use Rattle.proof_mirror.specs.Ready.{InStep, Shaped}
 use Rattle.proof_mirror.proofs.Shape.{shape_of, shaped_of, whole_run}
 use Rattle.proof_mirror.proofs.Sound.{fits_within}
-use Rattle.raft_calls.proofs.Ready.{contained_fits}
+use Rattle.raft_node.proofs.raft_calls_proofs.Ready.{contained_fits}
 use Rattle.proof_deeds.specs.Chains.{Reached}
 use Rattle.proof_deeds.specs.Follows.{FrontIs, StoreIs}
 use Rattle.proof_deeds.specs.Images.{Ideal, IsNamed, image, images, number}

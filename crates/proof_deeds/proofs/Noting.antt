@@ -1,13 +1,13 @@
 -- What is applied is noted, as a snapshot of it is to be built.
 use Rattle.std.proofs.Common.{ℕ, ◌+◌, ◌≡◌, [], ◌∷◌, ◌++◌, length, take, arith, refl, sym, ap, subst}
-use Rattle.raft_state.specs.declared.ids.LeaderId.{LeaderId}
-use Rattle.raft_command.specs.declared.command.Command.TheVariants as command
-use Rattle.raft_command.specs.declared.sm.CommandPayload.TheVariants as payload
+use Rattle.raft_node.specs.raft_state.declared.ids.LeaderId.{LeaderId}
+use Rattle.raft_node.specs.raft_command.declared.command.Command.TheVariants as command
+use Rattle.raft_node.specs.raft_command.declared.sm.CommandPayload.TheVariants as payload
 use Rattle.proof_agreement.specs.Machine.{Setup}
-use Rattle.raft_store.specs.declared.entry.Entry.{Entry}
-use Rattle.raft_store.specs.Entries.{entry_meaning}
-use Rattle.raft_store.specs.Store as store
-use Rattle.raft_store.specs.Types.{WorldStore}
+use Rattle.raft_node.specs.raft_store.declared.entry.Entry.{Entry}
+use Rattle.raft_node.specs.raft_store.Entries.{entry_meaning}
+use Rattle.raft_node.specs.raft_store.Store as store
+use Rattle.raft_node.specs.raft_store.Types.{WorldStore}
 use Rattle.proof_mirror.specs.Ready.{InStep}
 use Rattle.proof_mirror.proofs.Shape.{shaped_of}
 use Rattle.raft_node.specs.declared.node.Turn.{Turn}

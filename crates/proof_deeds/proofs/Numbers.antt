@@ -7,11 +7,11 @@ use Rattle.std.proofs.lemmas.Bool.Decides.{nat_tests}
 use Rattle.std.specs.Cmp.{nat_cmp_is, tied_itself}
 use Rattle.std.proofs.lemmas.Cmp.{nat_cmp_total}
 use Rattle.std.proofs.lemmas.Bool.{cases_order}
-use Rattle.raft_state.specs.declared.ids.LeaderId.{LeaderId}
-use Rattle.raft_state.specs.declared.ids.LogId.{LogId}
-use Rattle.raft_state.specs.declared.ids.Vote.{Vote}
-use Rattle.raft_state.specs.Order.{leader_id_cmp, last_id_cmp, log_id_cmp, vote_cmp, next}
-use Rattle.raft_state.proofs.Orders.{leader_total}
+use Rattle.raft_node.specs.raft_state.declared.ids.LeaderId.{LeaderId}
+use Rattle.raft_node.specs.raft_state.declared.ids.LogId.{LogId}
+use Rattle.raft_node.specs.raft_state.declared.ids.Vote.{Vote}
+use Rattle.raft_node.specs.raft_state.Order.{leader_id_cmp, last_id_cmp, log_id_cmp, vote_cmp, next}
+use Rattle.raft_node.proofs.raft_state_proofs.Orders.{leader_total}
 use Rattle.proof_agreement.specs.LeaderNumbers.{leader_node}
 use Rattle.proof_agreement.specs.Machine.{AtOrBelow}
 use Rattle.proof_agreement.proofs.LeaderNumbers.{leader_node-number, leader_number-lt, leader_number-same}

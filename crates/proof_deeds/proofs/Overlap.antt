@@ -13,7 +13,7 @@ use Rattle.proof_agreement.proofs.StoresFollow.{StoreOk, StoresFollow}
 use Rattle.proof_agreement.proofs.StoresBridge.{front_low, snapshot_committed, snapshot_held}
 use Rattle.proof_agreement.proofs.StoresTheorems.{deed_kept, reached}
 use Rattle.proof_agreement.proofs.WholeLogs.{begins, whole_length, whole_append, whole_below, whole_purge, whole_snapshot}
-use Rattle.raft_store.specs.declared.entry.Entry as world
+use Rattle.raft_node.specs.raft_store.declared.entry.Entry as world
 use Rattle.proof_deeds.specs.Chains.{Reached}
 use Rattle.proof_deeds.specs.Knows.{AllJoined}
 

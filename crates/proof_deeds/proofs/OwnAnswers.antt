@@ -10,34 +10,34 @@ use Rattle.std.proofs.lemmas.Bool.Decides.{nat_tests}
 use Rattle.std.proofs.lemmas.Cmp.{nat_cmp_total, tied_itself}
 use Rattle.std.proofs.lemmas.List.{append_cancel_left}
 use Rattle.std.proofs.lemmas.List.Elements.{Contains-append_right}
-use Rattle.raft_state.specs.declared.ids.LeaderId.{LeaderId}
-use Rattle.raft_state.specs.declared.ids.LogId.{LogId}
-use Rattle.raft_state.specs.declared.ids.Vote.{Vote}
-use Rattle.raft_state.specs.Fits.{is_within}
-use Rattle.raft_state.specs.Invariants.{first_index}
-use Rattle.raft_state.specs.Log.{at}
-use Rattle.raft_state.specs.Order.{last_id_cmp, leader_id_cmp, next}
-use Rattle.raft_state.specs.Same.{nat_same}
-use Rattle.raft_state.proofs.LogLists.{at_has, run_low}
-use Rattle.raft_state.proofs.Orders.{both_and, leader_total, nat_le_of}
-use Rattle.raft_state.proofs.StateLaws.{committed_has}
-use Rattle.raft_steps.specs.Invariants.{LeaderFits}
-use Rattle.raft_steps.specs.Laws.{later}
+use Rattle.raft_node.specs.raft_state.declared.ids.LeaderId.{LeaderId}
+use Rattle.raft_node.specs.raft_state.declared.ids.LogId.{LogId}
+use Rattle.raft_node.specs.raft_state.declared.ids.Vote.{Vote}
+use Rattle.raft_node.specs.raft_state.Fits.{is_within}
+use Rattle.raft_node.specs.raft_state.Invariants.{first_index}
+use Rattle.raft_node.specs.raft_state.Log.{at}
+use Rattle.raft_node.specs.raft_state.Order.{last_id_cmp, leader_id_cmp, next}
+use Rattle.raft_node.specs.raft_state.Same.{nat_same}
+use Rattle.raft_node.proofs.raft_state_proofs.LogLists.{at_has, run_low}
+use Rattle.raft_node.proofs.raft_state_proofs.Orders.{both_and, leader_total, nat_le_of}
+use Rattle.raft_node.proofs.raft_state_proofs.StateLaws.{committed_has}
+use Rattle.raft_node.specs.raft_steps.Invariants.{LeaderFits}
+use Rattle.raft_node.specs.raft_steps.Laws.{later}
 use Rattle.proof_agreement.specs.Deeds.{Leads}
 use Rattle.proof_agreement.specs.Machine.{Setup, last_leader, start}
 use Rattle.proof_agreement.specs.Stores.{entry_at, whole}
 use Rattle.proof_agreement.proofs.StoresTheorems as theorems
-use Rattle.raft_store.specs.declared.entry.Entry.{Entry}
-use Rattle.raft_store.specs.Entries.{entry_meaning}
-use Rattle.raft_store.specs.Types.{EngineView, WorldLeader}
+use Rattle.raft_node.specs.raft_store.declared.entry.Entry.{Entry}
+use Rattle.raft_node.specs.raft_store.Entries.{entry_meaning}
+use Rattle.raft_node.specs.raft_store.Types.{EngineView, WorldLeader}
 use Rattle.proof_mirror.specs.Ready.{IsStored}
 use Rattle.proof_mirror.proofs.Shape.{applied_upto, shaped_of}
-use Rattle.raft_schedule.specs.declared.event.Event.{Event}
-use Rattle.raft_schedule.specs.declared.event.EventKind.TheVariants as event
+use Rattle.raft_node.specs.raft_schedule.declared.event.Event.{Event}
+use Rattle.raft_node.specs.raft_schedule.declared.event.EventKind.TheVariants as event
 use Rattle.raft_node.specs.declared.given.Given.{Given}
-use Rattle.raft_calls.specs.declared.lead.Answer.{Answer}
+use Rattle.raft_node.specs.raft_calls.declared.lead.Answer.{Answer}
 use Rattle.raft_node.specs.declared.record.Decided.{Decided}
-use Rattle.raft_calls.specs.LeaderCalls.{answer_by, read_answer, read_refusal}
+use Rattle.raft_node.specs.raft_calls.LeaderCalls.{answer_by, read_answer, read_refusal}
 use Rattle.raft_node.specs.Net.{NodeView, Records}
 use Rattle.raft_node.specs.Runs.{History, run, start as begun, whole_logs, with_event, world_after}
 use Rattle.raft_node.specs.WellFormed.{IsWellFormed}

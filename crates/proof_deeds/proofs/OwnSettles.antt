@@ -5,41 +5,41 @@ use Rattle.std.specs.Prelude.{IfSome, if◌then◌else◌}
 use Rattle.std.specs.Ordering.{is_eq, is_ge, is_le, nat_cmp}
 use Rattle.std.proofs.lemmas.Bool.{both_ways, cases_lt, cond_both}
 use Rattle.std.proofs.lemmas.Cmp.{nat_cmp_total}
-use Rattle.raft_state.specs.declared.ids.LogId.{LogId}
-use Rattle.raft_state.specs.Fits.{fits}
-use Rattle.raft_state.specs.Log.{at}
-use Rattle.raft_state.specs.Order.{next, last_id_cmp, leader_id_cmp}
-use Rattle.raft_state.specs.Policy.{should_snapshot}
-use Rattle.raft_state.specs.Same.{nat_same}
-use Rattle.raft_state.specs.State.{commit, commits, settle}
-use Rattle.raft_state.proofs.Orders.{last_total, lt_not_ge}
-use Rattle.raft_progress_entry.specs.declared.entry.ProgressEntry.{ProgressEntry}
-use Rattle.raft_progress.specs.Quorum.{is_quorum}
-use Rattle.raft_progress.specs.Table.{get}
-use Rattle.raft_command.specs.Push.{ordered as ordered_payload, committed_upto}
-use Rattle.raft_command.specs.Queue.{queued}
-use Rattle.raft_command.specs.declared.command.Command.TheVariants as command
-use Rattle.raft_command.specs.declared.config.EngineConfig.{EngineConfig}
-use Rattle.raft_command.specs.declared.sm.CommandPayload.TheVariants as payload
-use Rattle.raft_steps.specs.Commit.{commit_by}
-use Rattle.raft_steps.specs.Invariants.{EntryFits, IsSoundLed, LeaderFits}
-use Rattle.raft_proposer.specs.Leader.{granted_id}
-use Rattle.raft_steps.specs.Parts.{led_of}
-use Rattle.raft_steps.specs.ReplicationHandler.{commit_granted, own_matched, try_commit_quorum_accepted, update_local_progress, with_entry}
-use Rattle.raft_steps.specs.SnapshotHandler.{trigger_snapshot, snapshot_where_due}
-use Rattle.raft_steps.proofs.EntryLaws.{fits_end, own_matched_fits}
-use Rattle.raft_steps.proofs.KeptCommit.{entry_kept, granted_fits, row_each}
+use Rattle.raft_node.specs.raft_state.declared.ids.LogId.{LogId}
+use Rattle.raft_node.specs.raft_state.Fits.{fits}
+use Rattle.raft_node.specs.raft_state.Log.{at}
+use Rattle.raft_node.specs.raft_state.Order.{next, last_id_cmp, leader_id_cmp}
+use Rattle.raft_node.specs.raft_state.Policy.{should_snapshot}
+use Rattle.raft_node.specs.raft_state.Same.{nat_same}
+use Rattle.raft_node.specs.raft_state.State.{commit, commits, settle}
+use Rattle.raft_node.proofs.raft_state_proofs.Orders.{last_total, lt_not_ge}
+use Rattle.raft_node.specs.raft_progress_entry.declared.entry.ProgressEntry.{ProgressEntry}
+use Rattle.raft_node.specs.raft_progress.Quorum.{is_quorum}
+use Rattle.raft_node.specs.raft_progress.Table.{get}
+use Rattle.raft_node.specs.raft_command.Push.{ordered as ordered_payload, committed_upto}
+use Rattle.raft_node.specs.raft_command.Queue.{queued}
+use Rattle.raft_node.specs.raft_command.declared.command.Command.TheVariants as command
+use Rattle.raft_node.specs.raft_command.declared.config.EngineConfig.{EngineConfig}
+use Rattle.raft_node.specs.raft_command.declared.sm.CommandPayload.TheVariants as payload
+use Rattle.raft_node.specs.raft_steps.Commit.{commit_by}
+use Rattle.raft_node.specs.raft_steps.Invariants.{EntryFits, IsSoundLed, LeaderFits}
+use Rattle.raft_node.specs.raft_proposer.Leader.{granted_id}
+use Rattle.raft_node.specs.raft_steps.Parts.{led_of}
+use Rattle.raft_node.specs.raft_steps.ReplicationHandler.{commit_granted, own_matched, try_commit_quorum_accepted, update_local_progress, with_entry}
+use Rattle.raft_node.specs.raft_steps.SnapshotHandler.{trigger_snapshot, snapshot_where_due}
+use Rattle.raft_node.proofs.raft_steps_proofs.EntryLaws.{fits_end, own_matched_fits}
+use Rattle.raft_node.proofs.raft_steps_proofs.KeptCommit.{entry_kept, granted_fits, row_each}
 use Rattle.proof_agreement.specs.Machine.{Setup, start}
 use Rattle.proof_agreement.specs.Stores.{whole, entry_at}
 use Rattle.proof_agreement.proofs.StoresBridge.{ids_rise}
-use Rattle.raft_store.specs.declared.entry.Entry.{Entry}
-use Rattle.raft_store.specs.Entries.{entry_meaning}
-use Rattle.raft_store.specs.Types.{WorldStore, WorldCommand, WorldLeader, WorldMachine}
+use Rattle.raft_node.specs.raft_store.declared.entry.Entry.{Entry}
+use Rattle.raft_node.specs.raft_store.Entries.{entry_meaning}
+use Rattle.raft_node.specs.raft_store.Types.{WorldStore, WorldCommand, WorldLeader, WorldMachine}
 use Rattle.proof_mirror.specs.Ready.{CommitFits, InStep}
 use Rattle.proof_mirror.proofs.Shape.{shape_of}
 use Rattle.proof_mirror.proofs.Sound.{all_fit}
 use Rattle.raft_node.specs.declared.node.Turn.{Turn}
-use Rattle.raft_calls.specs.Feeds.{WorldLed}
+use Rattle.raft_node.specs.raft_calls.Feeds.{WorldLed}
 use Rattle.proof_deeds.specs.Chains.{Does, left_by}
 use Rattle.proof_deeds.specs.Follows.{StoreIs}
 use Rattle.proof_deeds.specs.Images.{Ideal, number}

@@ -6,12 +6,12 @@ use Rattle.std.specs.List.{AllByRecursion}
 use Rattle.std.specs.Option.{option_or}
 use Rattle.std.specs.Ordering.{is_eq, nat_cmp}
 use Rattle.std.proofs.lemmas.Bool.Decides.{nat_tests}
-use Rattle.raft_error.specs.Number.{first_refusal, number_of}
-use Rattle.raft_error.specs.declared.error.EngineError.{EngineError}
-use Rattle.raft_store.specs.Types.{EngineView}
+use Rattle.raft_node.specs.raft_error.Number.{first_refusal, number_of}
+use Rattle.raft_node.specs.raft_error.declared.error.EngineError.{EngineError}
+use Rattle.raft_node.specs.raft_store.Types.{EngineView}
 use Rattle.raft_node.specs.Safety.{IsOtherRefusal}
-use Rattle.raft_calls.specs.Deliveries.{answered}
-use Rattle.raft_error.specs.declared.error.EngineError.TheVariants.{IndexEnd}
+use Rattle.raft_node.specs.raft_calls.Deliveries.{answered}
+use Rattle.raft_node.specs.raft_error.declared.error.EngineError.TheVariants.{IndexEnd}
 
 abbrev pub IsPlain : Option (EngineError ℕ (Unit {0})) → Type 0
 IsPlain o = IfSome o (λ e. IsOtherRefusal (number_of e))

@@ -3,42 +3,42 @@ use Rattle.std.proofs.Common.{ℕ, inl, inr, Bool, true, false, not, List, [], �
 use Rattle.std.specs.Prelude.{IfSome, nat_lt, if◌then◌else◌, ◌&&◌, ◌+◌}
 use Rattle.std.specs.Option.{option_map}
 use Rattle.std.specs.Ordering.{is_eq, is_gt, nat_cmp}
-use Rattle.raft_state.specs.declared.ids.LogId.{LogId}
-use Rattle.raft_state.specs.declared.ids.Vote.{Vote}
-use Rattle.raft_state.specs.declared.state.RaftState.{RaftState}
-use Rattle.raft_state.specs.Fits.{fits}
-use Rattle.raft_state.specs.Order.{next, vote_cmp}
-use Rattle.raft_progress_entry.specs.Entry.{acknowledges, begins_at, carries, refusals_of_conflicted}
-use Rattle.raft_progress.specs.Table.{get}
-use Rattle.raft_progress_entry.specs.declared.entry.ProgressEntry.{ProgressEntry}
-use Rattle.raft_error.specs.declared.error.EngineError.{EngineError}
-use Rattle.raft_error.specs.declared.error.EngineError.TheVariants.{CounterEnd, ForeignInflight, ForwardToLeader, IndexEnd, LogReverted, OutsideInflight, Spent, UnknownTarget}
-use Rattle.raft_error.specs.Number.{number_of}
-use Rattle.raft_command.specs.Replication as replication
-use Rattle.raft_command.specs.declared.config.EngineConfig.{EngineConfig}
-use Rattle.raft_command.specs.declared.message.AppendEntriesResponse.{AppendEntriesResponse}
-use Rattle.raft_command.specs.declared.message.AppendEntriesResponse.TheVariants.{Conflict, HigherVote, PartialSuccess, Success}
-use Rattle.raft_command.specs.declared.message.SnapshotResponse.{SnapshotResponse}
-use Rattle.raft_command.specs.declared.replication.ReplicationResult.{ReplicationResult}
-use Rattle.raft_command.specs.declared.replication.RequestId.{RequestId}
-use Rattle.raft_proposer.specs.Joint.{u64_max}
-use Rattle.raft_steps.specs.Engine.{as_uncommitted}
-use Rattle.raft_steps.specs.LeaderHandler.{leader_append_entries}
-use Rattle.raft_steps.specs.Parts.{leading, led_of}
-use Rattle.raft_steps.specs.Refusals.{blank_is_at_end, is_counter_end_among, is_spent, refusals_of_counter_led, refusals_of_lead, refusals_of_propose, refusals_of_spent, refusals_of_update_vote}
-use Rattle.raft_steps.specs.Replies.{update_progress}
-use Rattle.raft_steps.specs.ReplyRefusals.{is_own_request, refusals_of_acknowledged, refusals_of_answer, refusals_of_entry, refusals_of_progress, refusals_of_result}
-use Rattle.raft_steps.specs.ReplicationHandler.{initiate_replication}
-use Rattle.raft_steps.specs.Starts.{is_settled, leader_step_down, refusals_of_step_down}
-use Rattle.raft_steps.specs.VoteHandler.{rejects_vote, update_vote}
-use Rattle.raft_store.specs.declared.entry.Value.{Value}
-use Rattle.raft_store.specs.Entries.{entry_meaning}
-use Rattle.raft_store.specs.Types.{EngineView, WorldLeader, WorldMachine}
-use Rattle.raft_calls.specs.declared.message.Origin.{Origin}
-use Rattle.raft_calls.specs.Deliveries.{answered, led_call, progressed, take_append_reply, take_conflict, take_higher_vote, take_result, take_snapshot_reply, unled_number, with_machine}
-use Rattle.raft_calls.specs.Feeds.{WorldLed}
-use Rattle.raft_calls.specs.LeaderCalls.{failed, heartbeats_sent, inflight_to, proposed, read_asked, request_of, stepped_down, value_entry}
-use Rattle.raft_calls.specs.Memberships.{members_with, membership_changed, membership_entry}
+use Rattle.raft_node.specs.raft_state.declared.ids.LogId.{LogId}
+use Rattle.raft_node.specs.raft_state.declared.ids.Vote.{Vote}
+use Rattle.raft_node.specs.raft_state.declared.state.RaftState.{RaftState}
+use Rattle.raft_node.specs.raft_state.Fits.{fits}
+use Rattle.raft_node.specs.raft_state.Order.{next, vote_cmp}
+use Rattle.raft_node.specs.raft_progress_entry.Entry.{acknowledges, begins_at, carries, refusals_of_conflicted}
+use Rattle.raft_node.specs.raft_progress.Table.{get}
+use Rattle.raft_node.specs.raft_progress_entry.declared.entry.ProgressEntry.{ProgressEntry}
+use Rattle.raft_node.specs.raft_error.declared.error.EngineError.{EngineError}
+use Rattle.raft_node.specs.raft_error.declared.error.EngineError.TheVariants.{CounterEnd, ForeignInflight, ForwardToLeader, IndexEnd, LogReverted, OutsideInflight, Spent, UnknownTarget}
+use Rattle.raft_node.specs.raft_error.Number.{number_of}
+use Rattle.raft_node.specs.raft_command.Replication as replication
+use Rattle.raft_node.specs.raft_command.declared.config.EngineConfig.{EngineConfig}
+use Rattle.raft_node.specs.raft_command.declared.message.AppendEntriesResponse.{AppendEntriesResponse}
+use Rattle.raft_node.specs.raft_command.declared.message.AppendEntriesResponse.TheVariants.{Conflict, HigherVote, PartialSuccess, Success}
+use Rattle.raft_node.specs.raft_command.declared.message.SnapshotResponse.{SnapshotResponse}
+use Rattle.raft_node.specs.raft_command.declared.replication.ReplicationResult.{ReplicationResult}
+use Rattle.raft_node.specs.raft_command.declared.replication.RequestId.{RequestId}
+use Rattle.raft_node.specs.raft_proposer.Joint.{u64_max}
+use Rattle.raft_node.specs.raft_steps.Engine.{as_uncommitted}
+use Rattle.raft_node.specs.raft_steps.LeaderHandler.{leader_append_entries}
+use Rattle.raft_node.specs.raft_steps.Parts.{leading, led_of}
+use Rattle.raft_node.specs.raft_steps.Refusals.{blank_is_at_end, is_counter_end_among, is_spent, refusals_of_counter_led, refusals_of_lead, refusals_of_propose, refusals_of_spent, refusals_of_update_vote}
+use Rattle.raft_node.specs.raft_steps.Replies.{update_progress}
+use Rattle.raft_node.specs.raft_steps.ReplyRefusals.{is_own_request, refusals_of_acknowledged, refusals_of_answer, refusals_of_entry, refusals_of_progress, refusals_of_result}
+use Rattle.raft_node.specs.raft_steps.ReplicationHandler.{initiate_replication}
+use Rattle.raft_node.specs.raft_steps.Starts.{is_settled, leader_step_down, refusals_of_step_down}
+use Rattle.raft_node.specs.raft_steps.VoteHandler.{rejects_vote, update_vote}
+use Rattle.raft_node.specs.raft_store.declared.entry.Value.{Value}
+use Rattle.raft_node.specs.raft_store.Entries.{entry_meaning}
+use Rattle.raft_node.specs.raft_store.Types.{EngineView, WorldLeader, WorldMachine}
+use Rattle.raft_node.specs.raft_calls.declared.message.Origin.{Origin}
+use Rattle.raft_node.specs.raft_calls.Deliveries.{answered, led_call, progressed, take_append_reply, take_conflict, take_higher_vote, take_result, take_snapshot_reply, unled_number, with_machine}
+use Rattle.raft_node.specs.raft_calls.Feeds.{WorldLed}
+use Rattle.raft_node.specs.raft_calls.LeaderCalls.{failed, heartbeats_sent, inflight_to, proposed, read_asked, request_of, stepped_down, value_entry}
+use Rattle.raft_node.specs.raft_calls.Memberships.{members_with, membership_changed, membership_entry}
 use Rattle.raft_node.specs.Safety.{IsOtherRefusal}
 use Rattle.proof_deeds.proofs.PlainRefusals.{IsPlain, plain_answered, plain_first, plain_or}
 

@@ -6,20 +6,20 @@ use Rattle.std.specs.Ordering.{is_le, nat_cmp, ordering_then}
 use Rattle.std.specs.List.{AllByRecursion}
 use Rattle.std.proofs.lemmas.List.{length-map, take-map}
 use Rattle.std.proofs.lemmas.List.Elements.{All-contains, All-from_recursion}
-use Rattle.raft_state.specs.declared.ids.LeaderId.{LeaderId}
-use Rattle.raft_state.specs.declared.ids.LogId.{LogId}
-use Rattle.raft_state.specs.Fits.{is_within}
-use Rattle.raft_state.specs.LogLaws.{IsRun}
-use Rattle.raft_state.specs.Order.{last_id_cmp, leader_id_cmp}
-use Rattle.raft_state.proofs.Orders.{both_and, nat_le_of}
+use Rattle.raft_node.specs.raft_state.declared.ids.LeaderId.{LeaderId}
+use Rattle.raft_node.specs.raft_state.declared.ids.LogId.{LogId}
+use Rattle.raft_node.specs.raft_state.Fits.{is_within}
+use Rattle.raft_node.specs.raft_state.LogLaws.{IsRun}
+use Rattle.raft_node.specs.raft_state.Order.{last_id_cmp, leader_id_cmp}
+use Rattle.raft_node.proofs.raft_state_proofs.Orders.{both_and, nat_le_of}
 use Rattle.proof_agreement.specs.Machine.{Includes, Setup, start}
 use Rattle.proof_agreement.specs.Stores.{DecidedCommit, InstalledSnapshot, applied, entry_at, whole}
 use Rattle.proof_agreement.specs.StoresLaws.{AppliedAgree as StoresApplied, AppliedDecided, BeginsWith, CommitsEnd, Gives, OwnEntriesAbove, StoresAgree, StoresComplete, StoresDecided, IsRecordOf as IsIdealRecordOf, IsWholeLog as IsIdealWholeLog, LeadersAppend, StoresMatch}
 use Rattle.proof_agreement.proofs.StoresBridge.{begins_first}
 use Rattle.proof_agreement.proofs.StoresTheorems as theorems
-use Rattle.raft_store.specs.declared.entry.Entry.{Entry}
-use Rattle.raft_store.specs.Entries.{entry_meaning}
-use Rattle.raft_store.specs.Store as store
+use Rattle.raft_node.specs.raft_store.declared.entry.Entry.{Entry}
+use Rattle.raft_node.specs.raft_store.Entries.{entry_meaning}
+use Rattle.raft_node.specs.raft_store.Store as store
 use Rattle.proof_mirror.specs.Ready.{Shaped}
 use Rattle.raft_node.specs.declared.record.Executed.{Executed}
 use Rattle.raft_node.specs.declared.record.Installed.{Installed}

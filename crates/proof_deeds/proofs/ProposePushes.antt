@@ -3,18 +3,18 @@ use Rattle.std.proofs.Common.{ℕ, ◌+◌, ◌≤◌, ◌≡◌, inl, inr, ⊎_
 use Rattle.std.specs.List.{AllByRecursion}
 use Rattle.std.specs.Map.{values_of}
 use Rattle.std.proofs.lemmas.List.{map-append}
-use Rattle.raft_state.specs.declared.ids.LeaderId.{LeaderId}
-use Rattle.raft_state.specs.declared.ids.Vote.{Vote}
-use Rattle.raft_state.specs.Order.{next}
-use Rattle.raft_command.specs.declared.command.Command.TheVariants as command
+use Rattle.raft_node.specs.raft_state.declared.ids.LeaderId.{LeaderId}
+use Rattle.raft_node.specs.raft_state.declared.ids.Vote.{Vote}
+use Rattle.raft_node.specs.raft_state.Order.{next}
+use Rattle.raft_node.specs.raft_command.declared.command.Command.TheVariants as command
 use Rattle.proof_agreement.specs.Machine.{Setup}
 use Rattle.proof_agreement.specs.Stores.{whole, entry_at}
 use Rattle.proof_agreement.specs.Deeds.{LeaderAppend, Leads, Reaches, AllMayDo, does, run_all}
 use Rattle.proof_agreement.proofs.WholeLogs.{get_left, whole_append}
-use Rattle.raft_store.specs.declared.entry.Entry.{Entry}
-use Rattle.raft_store.specs.Entries.{entry_meaning}
-use Rattle.raft_store.specs.Types.{WorldStore}
-use Rattle.raft_store.proofs.Lists.{Run, values_with}
+use Rattle.raft_node.specs.raft_store.declared.entry.Entry.{Entry}
+use Rattle.raft_node.specs.raft_store.Entries.{entry_meaning}
+use Rattle.raft_node.specs.raft_store.Types.{WorldStore}
+use Rattle.raft_node.proofs.raft_store_proofs.Lists.{Run, values_with}
 use Rattle.proof_mirror.specs.Ready.{Shaped}
 use Rattle.proof_mirror.proofs.Puts.{put_stored}
 use Rattle.proof_mirror.proofs.Shape.{run_of_ids}

@@ -5,25 +5,25 @@ use Rattle.std.specs.List.{AllByRecursion}
 use Rattle.std.specs.Ordering.{nat_cmp}
 use Rattle.std.proofs.lemmas.Bool.{cond_both}
 use Rattle.std.proofs.lemmas.List.{length-map}
-use Rattle.raft_state.specs.declared.ids.LeaderId.{LeaderId}
-use Rattle.raft_state.specs.declared.ids.LogId.{LogId}
-use Rattle.raft_state.specs.declared.membership.StoredMembership.{StoredMembership}
-use Rattle.raft_state.specs.Log.{last}
-use Rattle.raft_state.specs.Order.{next}
-use Rattle.raft_state.specs.State.{extend}
-use Rattle.raft_command.specs.declared.command.Command.TheVariants as command
-use Rattle.raft_command.specs.declared.config.EngineConfig.{EngineConfig}
-use Rattle.raft_steps.specs.FollowingHandler.{memberships_in}
-use Rattle.raft_proposer.specs.Leader.{numbered, assigned, last_assigned}
-use Rattle.raft_steps.specs.LeaderHandler.{proposed, last_proposed, joined, leader_append_entries}
-use Rattle.raft_steps.specs.ReplicationHandler.{initiate_replication}
+use Rattle.raft_node.specs.raft_state.declared.ids.LeaderId.{LeaderId}
+use Rattle.raft_node.specs.raft_state.declared.ids.LogId.{LogId}
+use Rattle.raft_node.specs.raft_state.declared.membership.StoredMembership.{StoredMembership}
+use Rattle.raft_node.specs.raft_state.Log.{last}
+use Rattle.raft_node.specs.raft_state.Order.{next}
+use Rattle.raft_node.specs.raft_state.State.{extend}
+use Rattle.raft_node.specs.raft_command.declared.command.Command.TheVariants as command
+use Rattle.raft_node.specs.raft_command.declared.config.EngineConfig.{EngineConfig}
+use Rattle.raft_node.specs.raft_steps.FollowingHandler.{memberships_in}
+use Rattle.raft_node.specs.raft_proposer.Leader.{numbered, assigned, last_assigned}
+use Rattle.raft_node.specs.raft_steps.LeaderHandler.{proposed, last_proposed, joined, leader_append_entries}
+use Rattle.raft_node.specs.raft_steps.ReplicationHandler.{initiate_replication}
 use Rattle.proof_agreement.specs.Machine.{Setup}
 use Rattle.proof_agreement.specs.Deeds.{AllMayDo}
-use Rattle.raft_store.specs.declared.entry.Entry.{Entry}
-use Rattle.raft_store.specs.Entries.{entry_meaning, members_of}
-use Rattle.raft_store.specs.Mirror.{ends}
-use Rattle.raft_store.specs.Types.{WorldStore, WorldCommand, WorldLeader}
-use Rattle.raft_store.proofs.Lists.{Run}
+use Rattle.raft_node.specs.raft_store.declared.entry.Entry.{Entry}
+use Rattle.raft_node.specs.raft_store.Entries.{entry_meaning, members_of}
+use Rattle.raft_node.specs.raft_store.Mirror.{ends}
+use Rattle.raft_node.specs.raft_store.Types.{WorldStore, WorldCommand, WorldLeader}
+use Rattle.raft_node.proofs.raft_store_proofs.Lists.{Run}
 use Rattle.proof_mirror.specs.Ready.{Ordered, InStep, KnowsLog, PendingLed}
 use Rattle.proof_mirror.proofs.Orders.{Orderly, may_put}
 use Rattle.proof_mirror.proofs.Proposes.{run_numbered, rows_more, joined_ids}
@@ -31,7 +31,7 @@ use Rattle.proof_mirror.proofs.Puts.{grown_end, step_grown}
 use Rattle.proof_mirror.proofs.Queued.{awaits_one}
 use Rattle.proof_mirror.proofs.Shape.{Shape, shape_of, shaped_of}
 use Rattle.raft_node.specs.declared.node.Turn.{Turn}
-use Rattle.raft_calls.specs.Feeds.{WorldLed}
+use Rattle.raft_node.specs.raft_calls.Feeds.{WorldLed}
 use Rattle.proof_deeds.specs.Chains.{Reached, Does, stored, left_by, Done}
 use Rattle.proof_deeds.specs.Follows.{StoreIs}
 use Rattle.proof_deeds.specs.Images.{Ideal, IdealStore, IsNamed, EntriesFit, number}

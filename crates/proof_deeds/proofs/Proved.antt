@@ -1,8 +1,8 @@
 -- Any number of voters: what each run of a world promises, with nothing assumed.
 use Rattle.std.proofs.Common.{List, subst}
 use Rattle.std.specs.Prelude.{IfSome}
-use Rattle.raft_schedule.specs.declared.event.Event.{Event}
-use Rattle.raft_store.specs.declared.entry.Entry.{Entry}
+use Rattle.raft_node.specs.raft_schedule.declared.event.Event.{Event}
+use Rattle.raft_node.specs.raft_store.declared.entry.Entry.{Entry}
 use Rattle.raft_node.specs.Chosen.{KeepsChosen}
 use Rattle.raft_node.specs.Held.{AllResting}
 use Rattle.raft_node.specs.MayKeep.{AllMayKeep}

@@ -6,21 +6,21 @@ use Rattle.std.specs.Ordering.{nat_cmp}
 use Rattle.std.proofs.lemmas.Bool.{and_parts, ltb-true}
 use Rattle.std.proofs.lemmas.List.{length-map, take_all, take_more}
 use Rattle.std.proofs.lemmas.List.Sums.{sum_by-cons}
-use Rattle.raft_state.specs.declared.membership.Members.{Members}
-use Rattle.raft_state.specs.declared.membership.StoredMembership.{StoredMembership}
-use Rattle.raft_state.specs.Same.{nat_same}
-use Rattle.raft_state.specs.Sorted.{has_id}
-use Rattle.raft_progress.specs.Quorum.{is_majority, is_quorum}
-use Rattle.raft_progress.specs.QuorumLaws.{contains_from_has}
-use Rattle.raft_steps.specs.FollowingHandler.{memberships_in}
-use Rattle.raft_proposer.proofs.Elements.{In, contains_in}
+use Rattle.raft_node.specs.raft_state.declared.membership.Members.{Members}
+use Rattle.raft_node.specs.raft_state.declared.membership.StoredMembership.{StoredMembership}
+use Rattle.raft_node.specs.raft_state.Same.{nat_same}
+use Rattle.raft_node.specs.raft_state.Sorted.{has_id}
+use Rattle.raft_node.specs.raft_progress.Quorum.{is_majority, is_quorum}
+use Rattle.raft_node.specs.raft_progress.QuorumLaws.{contains_from_has}
+use Rattle.raft_node.specs.raft_steps.FollowingHandler.{memberships_in}
+use Rattle.raft_node.proofs.raft_proposer_proofs.Elements.{In, contains_in}
 use Rattle.proof_agreement.specs.LeaderNumbers.{leader_node}
 use Rattle.proof_agreement.specs.Machine.{Setup, IsQuorum, IsMajority, IsMajorityOfEach, count, last_membership}
 use Rattle.proof_agreement.specs.Stores.{entry_at, effective_membership_of}
 use Rattle.proof_agreement.specs.Deeds.{last_membership_of}
-use Rattle.raft_store.specs.declared.entry.Entry.{Entry}
-use Rattle.raft_store.specs.Entries.{entry_meaning, members_of}
-use Rattle.raft_store.specs.Mirror.{none, last_two, ends}
+use Rattle.raft_node.specs.raft_store.declared.entry.Entry.{Entry}
+use Rattle.raft_node.specs.raft_store.Entries.{entry_meaning, members_of}
+use Rattle.raft_node.specs.raft_store.Mirror.{none, last_two, ends}
 use Rattle.proof_mirror.proofs.Ends.{ends-append, memberships-append}
 use Rattle.proof_deeds.specs.Images.{IsWellFormedEntry, EntriesFit, head_group, tail_groups, groups_in, image, images, setup_of}
 

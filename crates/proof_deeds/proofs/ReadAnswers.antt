@@ -4,19 +4,19 @@ use Rattle.std.specs.Prelude.{IfSome, is_some, if◌then◌else◌}
 use Rattle.std.specs.List.{AllByRecursion}
 use Rattle.std.specs.Option.{option_map, option_to_list}
 use Rattle.std.specs.Ordering.{nat_cmp}
-use Rattle.raft_state.specs.declared.ids.Vote.{Vote}
-use Rattle.raft_steps.specs.Invariants.{LeaderFits}
-use Rattle.raft_steps.specs.Laws.{later}
+use Rattle.raft_node.specs.raft_state.declared.ids.Vote.{Vote}
+use Rattle.raft_node.specs.raft_steps.Invariants.{LeaderFits}
+use Rattle.raft_node.specs.raft_steps.Laws.{later}
 use Rattle.proof_agreement.specs.Machine.{Setup}
-use Rattle.raft_store.specs.declared.entry.Entry.{Entry}
-use Rattle.raft_store.specs.Types.{EngineView, WorldLeader}
+use Rattle.raft_node.specs.raft_store.declared.entry.Entry.{Entry}
+use Rattle.raft_node.specs.raft_store.Types.{EngineView, WorldLeader}
 use Rattle.raft_node.specs.declared.act.Act.{Act}
 use Rattle.raft_node.specs.declared.act.Act.TheVariants.{ChangeLearners, ChangeMembership, Elect, Fail, FinishSnapshot, Initialize, Propose, Read, Restart, SendHeartbeat, StepDown, Stop, Take, TriggerPurge, TriggerSnapshot}
 use Rattle.raft_node.specs.declared.given.Given.{Given}
-use Rattle.raft_calls.specs.declared.lead.Answer.{Answer}
+use Rattle.raft_node.specs.raft_calls.declared.lead.Answer.{Answer}
 use Rattle.raft_node.specs.Events.{answer_at, calls_at, with_answer}
 use Rattle.raft_node.specs.Execute.{effects}
-use Rattle.raft_calls.specs.LeaderCalls.{answer_by, read_answer, read_refusal}
+use Rattle.raft_node.specs.raft_calls.LeaderCalls.{answer_by, read_answer, read_refusal}
 use Rattle.raft_node.specs.Net.{NodeView, Records}
 use Rattle.proof_deeds.specs.Follows.{RecordsAre, RestIs, StoreIs}
 use Rattle.proof_deeds.specs.Images.{Ideal, IsNamed, setup_of}

@@ -6,15 +6,15 @@ use Rattle.std.specs.Ordering.{is_gt, is_le, nat_cmp, ordering_then}
 use Rattle.std.proofs.lemmas.Bool.{cond_both}
 use Rattle.std.proofs.lemmas.Bool.Decides.{nat_tests}
 use Rattle.std.proofs.lemmas.Cmp.{nat_cmp_total}
-use Rattle.raft_state.specs.declared.ids.LogId.{LogId}
-use Rattle.raft_state.specs.declared.ids.Vote.{Vote}
-use Rattle.raft_state.specs.Invariants.{IsSoundState, IsUnder}
-use Rattle.raft_state.specs.Order.{last_id_cmp, leader_id_cmp}
-use Rattle.raft_state.specs.Same.{leader_id_same, nat_same}
-use Rattle.raft_state.proofs.LogLists.{at_has}
-use Rattle.raft_state.proofs.StateLaws.{committed_has}
-use Rattle.raft_steps.specs.Laws.{later}
-use Rattle.raft_store.specs.Types.{WorldLeader}
+use Rattle.raft_node.specs.raft_state.declared.ids.LogId.{LogId}
+use Rattle.raft_node.specs.raft_state.declared.ids.Vote.{Vote}
+use Rattle.raft_node.specs.raft_state.Invariants.{IsSoundState, IsUnder}
+use Rattle.raft_node.specs.raft_state.Order.{last_id_cmp, leader_id_cmp}
+use Rattle.raft_node.specs.raft_state.Same.{leader_id_same, nat_same}
+use Rattle.raft_node.proofs.raft_state_proofs.LogLists.{at_has}
+use Rattle.raft_node.proofs.raft_state_proofs.StateLaws.{committed_has}
+use Rattle.raft_node.specs.raft_steps.Laws.{later}
+use Rattle.raft_node.specs.raft_store.Types.{WorldLeader}
 use Rattle.proof_deeds.proofs.Changing.{has_each}
 use Rattle.proof_deeds.proofs.Roles.{WorldState}
 

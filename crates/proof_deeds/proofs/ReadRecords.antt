@@ -4,31 +4,31 @@ use Rattle.std.specs.Prelude.{Contains, slice_get, slice_set, if◌then◌else�
 use Rattle.std.specs.Option.{option_to_list}
 use Rattle.std.proofs.lemmas.List.{append_cancel_left}
 use Rattle.std.proofs.lemmas.List.Elements.{All-contains_itself, recursion_from_All}
-use Rattle.raft_state.specs.declared.ids.LogId.{LogId}
-use Rattle.raft_command.specs.declared.command.Command.TheVariants as command
-use Rattle.raft_command.specs.declared.replication.ReplicationSessionId.{ReplicationSessionId}
-use Rattle.raft_command.specs.declared.sm.CommandPayload.TheVariants as payload
-use Rattle.raft_command.specs.Queue.{popped}
-use Rattle.raft_store.specs.declared.entry.Entry.{Entry}
-use Rattle.raft_store.specs.Types.{EngineView, WorldCommand, WorldPayload}
-use Rattle.raft_schedule.specs.declared.event.Event.{Event}
-use Rattle.raft_schedule.specs.declared.event.EventKind.TheVariants as event
-use Rattle.raft_schedule.specs.declared.event.Outcome.{Outcome}
-use Rattle.raft_schedule.specs.declared.event.Outcome.TheVariants.{Skipped}
-use Rattle.raft_schedule.specs.declared.event.SkipReason.{SkipReason}
-use Rattle.raft_schedule.specs.declared.event.SkipReason.TheVariants.{NoMessage, NotRunning}
+use Rattle.raft_node.specs.raft_state.declared.ids.LogId.{LogId}
+use Rattle.raft_node.specs.raft_command.declared.command.Command.TheVariants as command
+use Rattle.raft_node.specs.raft_command.declared.replication.ReplicationSessionId.{ReplicationSessionId}
+use Rattle.raft_node.specs.raft_command.declared.sm.CommandPayload.TheVariants as payload
+use Rattle.raft_node.specs.raft_command.Queue.{popped}
+use Rattle.raft_node.specs.raft_store.declared.entry.Entry.{Entry}
+use Rattle.raft_node.specs.raft_store.Types.{EngineView, WorldCommand, WorldPayload}
+use Rattle.raft_node.specs.raft_schedule.declared.event.Event.{Event}
+use Rattle.raft_node.specs.raft_schedule.declared.event.EventKind.TheVariants as event
+use Rattle.raft_node.specs.raft_schedule.declared.event.Outcome.{Outcome}
+use Rattle.raft_node.specs.raft_schedule.declared.event.Outcome.TheVariants.{Skipped}
+use Rattle.raft_node.specs.raft_schedule.declared.event.SkipReason.{SkipReason}
+use Rattle.raft_node.specs.raft_schedule.declared.event.SkipReason.TheVariants.{NoMessage, NotRunning}
 use Rattle.raft_node.specs.declared.act.Act.TheVariants.{Read}
 use Rattle.raft_node.specs.declared.given.Given.{Given}
 use Rattle.raft_node.specs.declared.node.Turn.{Turn}
-use Rattle.raft_calls.specs.declared.lead.Answer.{Answer}
+use Rattle.raft_node.specs.raft_calls.declared.lead.Answer.{Answer}
 use Rattle.raft_node.specs.Events.{Scene, aim_of, answer_at, at_node, at_place, called_at, calls, calls_at, finish, happens, moment_of, place_of, played, skip_reason, turn_of, work_of}
 use Rattle.raft_node.specs.Execute.{Effects, exec, exec_payload, replicate_committed, replication, sending, to_each}
-use Rattle.raft_calls.specs.Feeds.{feed}
-use Rattle.raft_calls.specs.LeaderCalls.{read_answer}
+use Rattle.raft_node.specs.raft_calls.Feeds.{feed}
+use Rattle.raft_node.specs.raft_calls.LeaderCalls.{read_answer}
 use Rattle.raft_node.specs.Net.{Net, NodeView}
 use Rattle.raft_node.specs.Runs.{whole_logs}
 use Rattle.raft_node.specs.Work.{Work, done_of, one_less, step_of, stopped, stops, weight, work_step}
-use Rattle.raft_calls.specs.Engines.{with_queue}
+use Rattle.raft_node.specs.raft_calls.Engines.{with_queue}
 use Rattle.raft_node.proofs.Ready.{net_after, scene_after}
 use Rattle.raft_node.proofs.Worked.{worked-keeps}
 use Rattle.proof_deeds.proofs.Executed.{WorldOrder}

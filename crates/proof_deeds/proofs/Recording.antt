@@ -2,16 +2,16 @@
 use Rattle.std.proofs.Common.{ℕ, suc, ◌+◌, ◌≡◌, ⊎_elim, Bool, List, [], ◌∷◌, ◌++◌, map, take, arith, refl, sym, ap, ap₂, ◌∙◌, subst, Option, None, Some}
 use Rattle.std.proofs.lemmas.List.{take-map}
 use Rattle.std.proofs.lemmas.List.Elements.{Contains-push}
-use Rattle.raft_state.specs.declared.ids.LogId.{LogId}
-use Rattle.raft_command.specs.declared.command.Command.TheVariants as command
-use Rattle.raft_command.specs.declared.replication.ReplicationSessionId.{ReplicationSessionId}
+use Rattle.raft_node.specs.raft_state.declared.ids.LogId.{LogId}
+use Rattle.raft_node.specs.raft_command.declared.command.Command.TheVariants as command
+use Rattle.raft_node.specs.raft_command.declared.replication.ReplicationSessionId.{ReplicationSessionId}
 use Rattle.proof_agreement.specs.Machine.{Setup, Includes}
 use Rattle.proof_agreement.specs.Stores.{DecidedCommit, whole}
 use Rattle.proof_agreement.specs.Deeds.{CommitByQuorum, MayCommitByQuorum, does}
-use Rattle.raft_store.specs.declared.entry.Entry.{Entry}
-use Rattle.raft_store.specs.Entries.{entry_meaning}
-use Rattle.raft_store.specs.Store as store
-use Rattle.raft_store.specs.Types.{WorldCommand, EngineView}
+use Rattle.raft_node.specs.raft_store.declared.entry.Entry.{Entry}
+use Rattle.raft_node.specs.raft_store.Entries.{entry_meaning}
+use Rattle.raft_node.specs.raft_store.Store as store
+use Rattle.raft_node.specs.raft_store.Types.{WorldCommand, EngineView}
 use Rattle.proof_mirror.specs.Ready.{Shaped}
 use Rattle.raft_node.specs.declared.node.Turn.{Turn}
 use Rattle.raft_node.specs.declared.record.Decided.{Decided}

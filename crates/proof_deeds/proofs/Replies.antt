@@ -4,31 +4,31 @@ use Rattle.std.specs.Prelude.{IfSome, if◌then◌else◌}
 use Rattle.std.specs.List.{AllByRecursion}
 use Rattle.std.specs.Ordering.{is_eq, nat_cmp}
 use Rattle.std.proofs.lemmas.Bool.{and_parts, cond_both}
-use Rattle.raft_state.specs.declared.ids.LogId.{LogId}
-use Rattle.raft_state.specs.declared.ids.Vote.{Vote}
-use Rattle.raft_state.specs.declared.membership.Members.{Members}
-use Rattle.raft_state.specs.Invariants.{IsSoundState}
-use Rattle.raft_state.specs.Log.{last}
-use Rattle.raft_state.specs.Order.{vote_cmp}
-use Rattle.raft_state.specs.Same.{nat_same}
-use Rattle.raft_state.proofs.Orders.{is_equal}
-use Rattle.raft_progress.specs.Quorum.{is_quorum}
-use Rattle.raft_progress.specs.Table.{is_row_of, with_value}
-use Rattle.raft_command.specs.Message.{is_granted_to}
-use Rattle.raft_command.specs.declared.config.EngineConfig.{EngineConfig}
-use Rattle.raft_command.specs.declared.message.VoteResponse.{VoteResponse}
-use Rattle.raft_proposer.specs.Candidate.{as_committed, grant_by, into_leader, is_granted}
-use Rattle.raft_steps.specs.Engine.{as_uncommitted, handle_vote_resp, lead_by_votes, may_establish, take_grant, take_rejection}
-use Rattle.raft_steps.specs.EstablishHandler.{outvotes}
-use Rattle.raft_steps.specs.LeaderHandler.{leader_append_entries}
-use Rattle.raft_steps.specs.Parts.{leading, on_leader}
-use Rattle.raft_steps.specs.ReplicationHandler.{rebuild_replication_streams}
-use Rattle.raft_steps.specs.VoteHandler.{update_vote}
-use Rattle.raft_steps.proofs.Leads.{vote_same}
+use Rattle.raft_node.specs.raft_state.declared.ids.LogId.{LogId}
+use Rattle.raft_node.specs.raft_state.declared.ids.Vote.{Vote}
+use Rattle.raft_node.specs.raft_state.declared.membership.Members.{Members}
+use Rattle.raft_node.specs.raft_state.Invariants.{IsSoundState}
+use Rattle.raft_node.specs.raft_state.Log.{last}
+use Rattle.raft_node.specs.raft_state.Order.{vote_cmp}
+use Rattle.raft_node.specs.raft_state.Same.{nat_same}
+use Rattle.raft_node.proofs.raft_state_proofs.Orders.{is_equal}
+use Rattle.raft_node.specs.raft_progress.Quorum.{is_quorum}
+use Rattle.raft_node.specs.raft_progress.Table.{is_row_of, with_value}
+use Rattle.raft_node.specs.raft_command.Message.{is_granted_to}
+use Rattle.raft_node.specs.raft_command.declared.config.EngineConfig.{EngineConfig}
+use Rattle.raft_node.specs.raft_command.declared.message.VoteResponse.{VoteResponse}
+use Rattle.raft_node.specs.raft_proposer.Candidate.{as_committed, grant_by, into_leader, is_granted}
+use Rattle.raft_node.specs.raft_steps.Engine.{as_uncommitted, handle_vote_resp, lead_by_votes, may_establish, take_grant, take_rejection}
+use Rattle.raft_node.specs.raft_steps.EstablishHandler.{outvotes}
+use Rattle.raft_node.specs.raft_steps.LeaderHandler.{leader_append_entries}
+use Rattle.raft_node.specs.raft_steps.Parts.{leading, on_leader}
+use Rattle.raft_node.specs.raft_steps.ReplicationHandler.{rebuild_replication_streams}
+use Rattle.raft_node.specs.raft_steps.VoteHandler.{update_vote}
+use Rattle.raft_node.proofs.raft_steps_proofs.Leads.{vote_same}
 use Rattle.proof_agreement.specs.Machine.{Includes}
 use Rattle.proof_agreement.specs.Stores.{VoteGranted}
-use Rattle.raft_store.specs.Entries.{entry_meaning}
-use Rattle.raft_store.specs.Types.{WorldStore, WorldMachine, WorldLeader, WorldCandidate}
+use Rattle.raft_node.specs.raft_store.Entries.{entry_meaning}
+use Rattle.raft_node.specs.raft_store.Types.{WorldStore, WorldMachine, WorldLeader, WorldCandidate}
 use Rattle.proof_mirror.specs.Ready.{Ordered, PendingIn}
 use Rattle.proof_mirror.proofs.Orders.{Orderly}
 use Rattle.raft_node.specs.declared.node.Turn.{Turn}

@@ -8,28 +8,28 @@ use Rattle.std.proofs.lemmas.Bool.{and_parts, cases_lt, cond_both, ltb-true, not
 use Rattle.std.proofs.lemmas.Cmp.{nat_cmp_total}
 use Rattle.std.proofs.lemmas.List.{length-map, get_or-drop}
 use Rattle.std.proofs.lemmas.Option.{slice_get_within}
-use Rattle.raft_state.specs.declared.ids.LogId.{LogId}
-use Rattle.raft_state.specs.declared.state.RaftState.{RaftState}
-use Rattle.raft_state.specs.Log.{last, at}
-use Rattle.raft_state.specs.LogLaws.{IsRun, at-run}
-use Rattle.raft_state.specs.Order.{next, last_id_cmp}
-use Rattle.raft_state.specs.Same.{nat_same, found_is}
-use Rattle.raft_state.specs.State.{is_found}
-use Rattle.raft_state.proofs.StateLaws.{is_found_at}
-use Rattle.raft_steps.specs.Parts.{idle}
+use Rattle.raft_node.specs.raft_state.declared.ids.LogId.{LogId}
+use Rattle.raft_node.specs.raft_state.declared.state.RaftState.{RaftState}
+use Rattle.raft_node.specs.raft_state.Log.{last, at}
+use Rattle.raft_node.specs.raft_state.LogLaws.{IsRun, at-run}
+use Rattle.raft_node.specs.raft_state.Order.{next, last_id_cmp}
+use Rattle.raft_node.specs.raft_state.Same.{nat_same, found_is}
+use Rattle.raft_node.specs.raft_state.State.{is_found}
+use Rattle.raft_node.proofs.raft_state_proofs.StateLaws.{is_found_at}
+use Rattle.raft_node.specs.raft_steps.Parts.{idle}
 use Rattle.proof_agreement.specs.Machine.{Setup}
 use Rattle.proof_agreement.specs.Stores.{whole, entry_at, first_entry, no_session}
 use Rattle.proof_agreement.specs.Deeds.{Purge, Restart, RestartSaved, Reaches, AllMayDo, put, does, run_all}
 use Rattle.proof_agreement.proofs.StoresTheorems.{run_all-append, all_join}
 use Rattle.proof_agreement.proofs.WholeLogs.{get_left}
-use Rattle.raft_store.specs.declared.entry.Entry.{Entry}
-use Rattle.raft_store.specs.Entries.{entry_meaning}
-use Rattle.raft_store.specs.Mirror.{ids_of, map_ids}
-use Rattle.raft_store.specs.Store as store
-use Rattle.raft_store.specs.Types.{WorldStore}
-use Rattle.raft_store.proofs.Lists.{Run, onward_none}
+use Rattle.raft_node.specs.raft_store.declared.entry.Entry.{Entry}
+use Rattle.raft_node.specs.raft_store.Entries.{entry_meaning}
+use Rattle.raft_node.specs.raft_store.Mirror.{ids_of, map_ids}
+use Rattle.raft_node.specs.raft_store.Store as store
+use Rattle.raft_node.specs.raft_store.Types.{WorldStore}
+use Rattle.raft_node.proofs.raft_store_proofs.Lists.{Run, onward_none}
 use Rattle.proof_mirror.specs.Ready.{Shaped, Ordered, InStep, MayPurge}
-use Rattle.raft_store.specs.Restart.{is_outrun, settled_by, settled, greater_id, holds_some, restarted, started}
+use Rattle.raft_node.specs.raft_store.Restart.{is_outrun, settled_by, settled, greater_id, holds_some, restarted, started}
 use Rattle.proof_mirror.proofs.Purges.{purged_map}
 use Rattle.proof_mirror.proofs.Restarting.{restart_in_step}
 use Rattle.proof_mirror.proofs.Shape.{run_of_ids, shaped_of, applied_length, front_end, behind_run, whole_run, shape_of, ids_of_run}

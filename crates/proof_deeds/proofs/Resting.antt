@@ -3,14 +3,14 @@ use Rattle.std.proofs.Common.{List, sym, subst, Option, None, Some, ◌≡◌}
 use Rattle.std.specs.Prelude.{IfSome}
 use Rattle.std.specs.Ordering.{nat_cmp}
 use Rattle.std.proofs.lemmas.Cmp.{nat_cmp_total}
-use Rattle.raft_state.specs.Same.{nat_same}
+use Rattle.raft_node.specs.raft_state.Same.{nat_same}
 use Rattle.std.proofs.lemmas.List.Elements.{All-from_recursion}
 use Rattle.proof_agreement.specs.Machine.{Setup}
-use Rattle.raft_store.specs.declared.entry.Entry.{Entry}
-use Rattle.raft_store.specs.Entries.{entry_meaning}
-use Rattle.raft_store.specs.Types.{EngineView}
+use Rattle.raft_node.specs.raft_store.declared.entry.Entry.{Entry}
+use Rattle.raft_node.specs.raft_store.Entries.{entry_meaning}
+use Rattle.raft_node.specs.raft_store.Types.{EngineView}
 use Rattle.proof_mirror.proofs.Restarting.{restart_in_step}
-use Rattle.raft_calls.specs.Held.{AllHeld, IsRestingWhereRunning}
+use Rattle.raft_node.specs.raft_calls.Held.{AllHeld, IsRestingWhereRunning}
 use Rattle.raft_node.specs.Held.{AllResting, IsAtRest}
 use Rattle.raft_node.specs.Net.{NodeView, Records}
 use Rattle.proof_deeds.specs.Chains.{Reached}

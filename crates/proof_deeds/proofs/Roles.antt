@@ -2,24 +2,24 @@
 use Rattle.std.proofs.Common.{ℕ, ◌≡◌, Bool, true, false, cond, List, [], ◌∷◌, ◌++◌, refl, sym, ap, ◌∙◌, subst, append-nil}
 use Rattle.std.specs.Ordering.{is_eq, nat_cmp}
 use Rattle.std.proofs.lemmas.Bool.{and_parts, both_ways}
-use Rattle.raft_state.specs.declared.ids.LeaderId.{LeaderId}
-use Rattle.raft_state.specs.declared.membership.Members.{Members}
-use Rattle.raft_state.specs.declared.state.RaftState.{RaftState}
-use Rattle.raft_state.specs.declared.state.ServerState.{ServerState}
-use Rattle.raft_state.specs.declared.state.ServerState.TheVariants as role
-use Rattle.raft_state.specs.Members.{contains, is_voter}
-use Rattle.raft_state.specs.Same.{nat_same}
-use Rattle.raft_state.specs.State.{is_leader, is_leading, server_state}
-use Rattle.raft_state.proofs.Orders.{is_equal}
-use Rattle.raft_command.specs.declared.command.Command.TheVariants as command
-use Rattle.raft_command.specs.declared.config.EngineConfig.{EngineConfig}
-use Rattle.raft_steps.specs.Parts.{Core}
-use Rattle.raft_steps.specs.ServerStateHandler.{role_commands, update_role}
+use Rattle.raft_node.specs.raft_state.declared.ids.LeaderId.{LeaderId}
+use Rattle.raft_node.specs.raft_state.declared.membership.Members.{Members}
+use Rattle.raft_node.specs.raft_state.declared.state.RaftState.{RaftState}
+use Rattle.raft_node.specs.raft_state.declared.state.ServerState.{ServerState}
+use Rattle.raft_node.specs.raft_state.declared.state.ServerState.TheVariants as role
+use Rattle.raft_node.specs.raft_state.Members.{contains, is_voter}
+use Rattle.raft_node.specs.raft_state.Same.{nat_same}
+use Rattle.raft_node.specs.raft_state.State.{is_leader, is_leading, server_state}
+use Rattle.raft_node.proofs.raft_state_proofs.Orders.{is_equal}
+use Rattle.raft_node.specs.raft_command.declared.command.Command.TheVariants as command
+use Rattle.raft_node.specs.raft_command.declared.config.EngineConfig.{EngineConfig}
+use Rattle.raft_node.specs.raft_steps.Parts.{Core}
+use Rattle.raft_node.specs.raft_steps.ServerStateHandler.{role_commands, update_role}
 use Rattle.proof_agreement.specs.Deeds.{EndStreams, Leads, RecordEstablished, does}
-use Rattle.raft_store.specs.declared.config.WorldConfig.{WorldConfig}
-use Rattle.raft_store.specs.declared.entry.Entry.{Entry}
-use Rattle.raft_store.specs.Entries.{entry_meaning}
-use Rattle.raft_store.specs.Types.{WorldStore, WorldCommand}
+use Rattle.raft_node.specs.raft_store.declared.config.WorldConfig.{WorldConfig}
+use Rattle.raft_node.specs.raft_store.declared.entry.Entry.{Entry}
+use Rattle.raft_node.specs.raft_store.Entries.{entry_meaning}
+use Rattle.raft_node.specs.raft_store.Types.{WorldStore, WorldCommand}
 use Rattle.proof_mirror.specs.Ready.{InStep}
 use Rattle.raft_node.specs.declared.node.Turn.{Turn}
 use Rattle.proof_deeds.specs.Chains.{left_by, Carried}

@@ -5,23 +5,23 @@ use Rattle.std.specs.List.{AllByRecursion}
 use Rattle.std.specs.Map.{values_of}
 use Rattle.std.specs.Ordering.{nat_cmp}
 use Rattle.std.proofs.lemmas.List.Elements.{Contains-append_left}
-use Rattle.raft_state.specs.declared.ids.LogId.{LogId}
-use Rattle.raft_state.specs.Log.{at}
-use Rattle.raft_state.specs.LogLaws.{IsRun, at-run}
-use Rattle.raft_state.specs.Order.{next}
-use Rattle.raft_state.specs.Same.{found_is, nat_same}
-use Rattle.raft_state.specs.State.{is_found}
-use Rattle.raft_store.specs.declared.entry.Entry.{Entry}
-use Rattle.raft_store.specs.Entries.{entry_meaning}
-use Rattle.raft_store.specs.Store as store
-use Rattle.raft_store.specs.Types.{WorldStore}
-use Rattle.raft_store.proofs.Lists.{Run, onward, run_append, run_onward}
+use Rattle.raft_node.specs.raft_state.declared.ids.LogId.{LogId}
+use Rattle.raft_node.specs.raft_state.Log.{at}
+use Rattle.raft_node.specs.raft_state.LogLaws.{IsRun, at-run}
+use Rattle.raft_node.specs.raft_state.Order.{next}
+use Rattle.raft_node.specs.raft_state.Same.{found_is, nat_same}
+use Rattle.raft_node.specs.raft_state.State.{is_found}
+use Rattle.raft_node.specs.raft_store.declared.entry.Entry.{Entry}
+use Rattle.raft_node.specs.raft_store.Entries.{entry_meaning}
+use Rattle.raft_node.specs.raft_store.Store as store
+use Rattle.raft_node.specs.raft_store.Types.{WorldStore}
+use Rattle.raft_node.proofs.raft_store_proofs.Lists.{Run, onward, run_append, run_onward}
 use Rattle.proof_mirror.specs.Ready.{Shaped}
 use Rattle.proof_mirror.proofs.Shape.{run_of_ids, ids_of_run, past_keyed}
 use Rattle.proof_agreement.specs.Machine.{Includes, Setup}
 use Rattle.proof_agreement.specs.Stores.{Accepted, DecidedCommit, Session}
-use Rattle.raft_calls.specs.declared.message.Message.{Message}
-use Rattle.raft_calls.specs.declared.lead.Answer.{Answer}
+use Rattle.raft_node.specs.raft_calls.declared.message.Message.{Message}
+use Rattle.raft_node.specs.raft_calls.declared.lead.Answer.{Answer}
 use Rattle.raft_node.specs.declared.record.Decided.{Decided}
 use Rattle.raft_node.specs.declared.record.Established.{Established}
 use Rattle.raft_node.specs.declared.record.Installed.{Installed}

@@ -4,22 +4,22 @@ use Rattle.std.specs.Prelude.{IfSome, if◌then◌else◌}
 use Rattle.std.specs.Ordering.{is_gt, nat_cmp}
 use Rattle.std.proofs.lemmas.Bool.{cond_both}
 use Rattle.std.proofs.lemmas.Cmp.{nat_cmp_total}
-use Rattle.raft_state.specs.declared.ids.LogId.{LogId}
-use Rattle.raft_state.specs.Invariants.{IsSoundState}
-use Rattle.raft_state.specs.Order.{last_id_cmp}
-use Rattle.raft_state.specs.Same.{nat_same}
-use Rattle.raft_state.specs.State.{accepted, purge}
-use Rattle.raft_command.specs.Push.{with_command}
-use Rattle.raft_command.specs.declared.command.Command.TheVariants as command
-use Rattle.raft_steps.specs.LogHandler.{purge_log}
-use Rattle.raft_steps.specs.Parts.{on_core}
+use Rattle.raft_node.specs.raft_state.declared.ids.LogId.{LogId}
+use Rattle.raft_node.specs.raft_state.Invariants.{IsSoundState}
+use Rattle.raft_node.specs.raft_state.Order.{last_id_cmp}
+use Rattle.raft_node.specs.raft_state.Same.{nat_same}
+use Rattle.raft_node.specs.raft_state.State.{accepted, purge}
+use Rattle.raft_node.specs.raft_command.Push.{with_command}
+use Rattle.raft_node.specs.raft_command.declared.command.Command.TheVariants as command
+use Rattle.raft_node.specs.raft_steps.LogHandler.{purge_log}
+use Rattle.raft_node.specs.raft_steps.Parts.{on_core}
 use Rattle.proof_agreement.specs.Machine.{Setup}
 use Rattle.proof_agreement.specs.Stores.{Append, entry_at}
 use Rattle.proof_agreement.specs.Deeds.{Purge, MayAccept, does}
 use Rattle.proof_agreement.proofs.WholeLogs.{whole_purge}
-use Rattle.raft_store.specs.declared.entry.Entry.{Entry}
-use Rattle.raft_store.specs.Entries.{entry_meaning}
-use Rattle.raft_store.specs.Types.{WorldStore, WorldCommand, WorldMachine}
+use Rattle.raft_node.specs.raft_store.declared.entry.Entry.{Entry}
+use Rattle.raft_node.specs.raft_store.Entries.{entry_meaning}
+use Rattle.raft_node.specs.raft_store.Types.{WorldStore, WorldCommand, WorldMachine}
 use Rattle.proof_mirror.specs.Ready.{Shaped, Fits, Ready, MayPurge, Pending}
 use Rattle.proof_mirror.proofs.Purges.{purge_is}
 use Rattle.proof_mirror.proofs.Purging.{pending_purge}

@@ -1,7 +1,7 @@
 -- The laws of calls for snapshots and purges at an event.
 use Rattle.std.proofs.Common.{ℕ}
-use Rattle.raft_state.specs.declared.membership.Members.{Members}
-use Rattle.raft_calls.specs.Deliveries.{reply_token}
+use Rattle.raft_node.specs.raft_state.declared.membership.Members.{Members}
+use Rattle.raft_node.specs.raft_calls.Deliveries.{reply_token}
 use Rattle.proof_deeds.specs.Images.{setup_of}
 use Rattle.proof_deeds.proofs.AppendFitting.{Settled}
 use Rattle.proof_deeds.proofs.Calls.{ByInstall, ByPurge, ByTrigger, PlainInstall}

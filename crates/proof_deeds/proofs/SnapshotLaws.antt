@@ -5,33 +5,33 @@ use Rattle.std.specs.Prelude.{nat_lt, min, if◌then◌else◌}
 use Rattle.std.specs.Ordering.{nat_cmp}
 use Rattle.std.proofs.lemmas.Bool.{both_ways, cond_both, ltb-false}
 use Rattle.std.proofs.lemmas.Cmp.{nat_cmp_total}
-use Rattle.raft_state.specs.declared.ids.LogId.{LogId}
-use Rattle.raft_state.specs.declared.membership.SnapshotMeta.{SnapshotMeta}
-use Rattle.raft_state.specs.Fits.{fits, is_within}
-use Rattle.raft_state.specs.Invariants.{IsSoundState}
-use Rattle.raft_state.specs.Log.{at}
-use Rattle.raft_state.specs.Order.{next}
-use Rattle.raft_state.specs.Policy.{should_snapshot}
-use Rattle.raft_state.specs.Same.{nat_same}
-use Rattle.raft_state.specs.State.{accepted_under}
-use Rattle.raft_progress_entry.specs.declared.entry.ProgressEntry.{ProgressEntry}
-use Rattle.raft_command.specs.Push.{ordered}
-use Rattle.raft_command.specs.declared.command.Command.TheVariants as command
-use Rattle.raft_command.specs.declared.config.EngineConfig.{EngineConfig}
-use Rattle.raft_command.specs.declared.message.Token.{Token}
-use Rattle.raft_command.specs.declared.sm.CommandPayload.TheVariants as payload
-use Rattle.raft_steps.specs.Refusals.{rows_in}
-use Rattle.raft_steps.specs.Invariants.{IsSound}
-use Rattle.raft_steps.specs.Laws.{later}
-use Rattle.raft_steps.specs.LogHandler.{is_target_inflight, calc_purge_upto, update_purge_upto, purge_log, try_purge_log, schedule_policy_based_purge}
-use Rattle.raft_steps.specs.Parts.{with_state, on_core}
-use Rattle.raft_steps.specs.SnapshotCalls.{built, handle_begin_receiving_snapshot, purge_where_free, trigger_purge_log, finish_building_snapshot}
-use Rattle.raft_steps.specs.SnapshotHandler.{trigger_snapshot, snapshot_where_due, is_newer_snapshot, update_snapshot}
-use Rattle.raft_steps.proofs.KeptPurge.{index_sound, scheduled_is_sound, recorded_is_sound}
+use Rattle.raft_node.specs.raft_state.declared.ids.LogId.{LogId}
+use Rattle.raft_node.specs.raft_state.declared.membership.SnapshotMeta.{SnapshotMeta}
+use Rattle.raft_node.specs.raft_state.Fits.{fits, is_within}
+use Rattle.raft_node.specs.raft_state.Invariants.{IsSoundState}
+use Rattle.raft_node.specs.raft_state.Log.{at}
+use Rattle.raft_node.specs.raft_state.Order.{next}
+use Rattle.raft_node.specs.raft_state.Policy.{should_snapshot}
+use Rattle.raft_node.specs.raft_state.Same.{nat_same}
+use Rattle.raft_node.specs.raft_state.State.{accepted_under}
+use Rattle.raft_node.specs.raft_progress_entry.declared.entry.ProgressEntry.{ProgressEntry}
+use Rattle.raft_node.specs.raft_command.Push.{ordered}
+use Rattle.raft_node.specs.raft_command.declared.command.Command.TheVariants as command
+use Rattle.raft_node.specs.raft_command.declared.config.EngineConfig.{EngineConfig}
+use Rattle.raft_node.specs.raft_command.declared.message.Token.{Token}
+use Rattle.raft_node.specs.raft_command.declared.sm.CommandPayload.TheVariants as payload
+use Rattle.raft_node.specs.raft_steps.Refusals.{rows_in}
+use Rattle.raft_node.specs.raft_steps.Invariants.{IsSound}
+use Rattle.raft_node.specs.raft_steps.Laws.{later}
+use Rattle.raft_node.specs.raft_steps.LogHandler.{is_target_inflight, calc_purge_upto, update_purge_upto, purge_log, try_purge_log, schedule_policy_based_purge}
+use Rattle.raft_node.specs.raft_steps.Parts.{with_state, on_core}
+use Rattle.raft_node.specs.raft_steps.SnapshotCalls.{built, handle_begin_receiving_snapshot, purge_where_free, trigger_purge_log, finish_building_snapshot}
+use Rattle.raft_node.specs.raft_steps.SnapshotHandler.{trigger_snapshot, snapshot_where_due, is_newer_snapshot, update_snapshot}
+use Rattle.raft_node.proofs.raft_steps_proofs.KeptPurge.{index_sound, scheduled_is_sound, recorded_is_sound}
 use Rattle.proof_agreement.specs.Machine.{Setup}
-use Rattle.raft_store.specs.declared.entry.Entry.{Entry}
-use Rattle.raft_store.specs.Entries.{entry_meaning}
-use Rattle.raft_store.specs.Types.{WorldStore, WorldMachine}
+use Rattle.raft_node.specs.raft_store.declared.entry.Entry.{Entry}
+use Rattle.raft_node.specs.raft_store.Entries.{entry_meaning}
+use Rattle.raft_node.specs.raft_store.Types.{WorldStore, WorldMachine}
 use Rattle.proof_mirror.specs.Ready.{InStep, Pending}
 use Rattle.proof_mirror.proofs.Purging.{step_target, pending_schedule}
 use Rattle.proof_mirror.proofs.Queued.{step_alike, awaits_state}

@@ -4,20 +4,20 @@ use Rattle.std.specs.Prelude.{nat_lt, filter, slice_get}
 use Rattle.std.specs.Map.{values_of}
 use Rattle.std.proofs.lemmas.Bool.{cases_lt}
 use Rattle.std.proofs.lemmas.List.{length-map, drop-map}
-use Rattle.raft_state.specs.declared.ids.LeaderId.{LeaderId}
-use Rattle.raft_state.specs.declared.ids.LogId.{LogId}
-use Rattle.raft_state.specs.Log.{last, at}
-use Rattle.raft_state.specs.LogLaws.{at-run}
-use Rattle.raft_state.specs.Order.{next}
-use Rattle.raft_command.specs.declared.command.Command.TheVariants as command
+use Rattle.raft_node.specs.raft_state.declared.ids.LeaderId.{LeaderId}
+use Rattle.raft_node.specs.raft_state.declared.ids.LogId.{LogId}
+use Rattle.raft_node.specs.raft_state.Log.{last, at}
+use Rattle.raft_node.specs.raft_state.LogLaws.{at-run}
+use Rattle.raft_node.specs.raft_state.Order.{next}
+use Rattle.raft_node.specs.raft_command.declared.command.Command.TheVariants as command
 use Rattle.proof_agreement.specs.Machine.{Setup, last_leader}
 use Rattle.proof_agreement.specs.Stores.{whole, entry_at}
 use Rattle.proof_agreement.specs.Deeds.{Purge, Reaches, put, does}
 use Rattle.proof_agreement.proofs.WholeLogs.{whole_purge, get_left}
-use Rattle.raft_store.specs.declared.entry.Entry.{Entry}
-use Rattle.raft_store.specs.Entries.{entry_meaning}
-use Rattle.raft_store.specs.Types.{WorldStore}
-use Rattle.raft_store.proofs.Lists.{Run, onward, next_last_0}
+use Rattle.raft_node.specs.raft_store.declared.entry.Entry.{Entry}
+use Rattle.raft_node.specs.raft_store.Entries.{entry_meaning}
+use Rattle.raft_node.specs.raft_store.Types.{WorldStore}
+use Rattle.raft_node.proofs.raft_store_proofs.Lists.{Run, onward, next_last_0}
 use Rattle.proof_mirror.specs.Ready.{Shaped, MayPurge}
 use Rattle.proof_mirror.proofs.Purges.{purged_values}
 use Rattle.proof_mirror.proofs.Shape.{run_of_ids, length_ids}

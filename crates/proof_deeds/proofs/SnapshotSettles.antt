@@ -5,41 +5,41 @@ use Rattle.std.specs.Option.{option_map}
 use Rattle.std.specs.Ordering.{is_gt, nat_cmp}
 use Rattle.std.proofs.lemmas.Bool.{cond_both}
 use Rattle.std.proofs.lemmas.Cmp.{nat_cmp_total}
-use Rattle.raft_state.specs.declared.ids.LogId.{LogId}
-use Rattle.raft_state.specs.declared.membership.Members.{Members}
-use Rattle.raft_state.specs.declared.membership.SnapshotMeta.{SnapshotMeta}
-use Rattle.raft_state.specs.declared.membership.StoredMembership.{StoredMembership}
-use Rattle.raft_state.specs.Log.{at}
-use Rattle.raft_state.specs.Order.{last_id_cmp, next}
-use Rattle.raft_state.specs.Same.{nat_same}
-use Rattle.raft_state.specs.State.{accepted}
-use Rattle.raft_state.proofs.Orders.{within_next}
-use Rattle.raft_progress_entry.specs.declared.entry.ProgressEntry.{ProgressEntry}
-use Rattle.raft_command.specs.declared.config.EngineConfig.{EngineConfig}
-use Rattle.raft_command.specs.declared.message.Token.{Token}
-use Rattle.raft_command.specs.declared.sm.CommandPayload.TheVariants as payload
-use Rattle.raft_command.specs.Push.{ordered}
-use Rattle.raft_steps.specs.FollowingHandler.{truncate_logs}
-use Rattle.raft_steps.specs.InstallRefusals.{refusals_of_install}
-use Rattle.raft_steps.specs.Installs.{handle_install_full_snapshot, has_other_at, held_upto, install_and_reply, install_full_snapshot, install_upto, installs, replaces_log, reply_install, truncate_contradicted, with_memberships_of}
-use Rattle.raft_steps.specs.LogHandler.{schedule_policy_based_purge, try_purge_log, update_purge_upto}
-use Rattle.raft_steps.specs.Parts.{on_core, with_state}
-use Rattle.raft_steps.specs.Refusals.{rows_in}
-use Rattle.raft_steps.specs.ServerStateHandler.{update_role}
-use Rattle.raft_steps.specs.SnapshotCalls.{built, finish_building_snapshot, purge_to_index, trigger_purge_log}
-use Rattle.raft_steps.specs.SnapshotHandler.{is_newer_snapshot, trigger_snapshot, update_snapshot}
-use Rattle.raft_steps.specs.VoteHandler.{rejects_vote, update_vote}
-use Rattle.raft_steps.proofs.KeptAppend.{truncate_case}
-use Rattle.raft_steps.proofs.KeptFollow.{heard_case}
+use Rattle.raft_node.specs.raft_state.declared.ids.LogId.{LogId}
+use Rattle.raft_node.specs.raft_state.declared.membership.Members.{Members}
+use Rattle.raft_node.specs.raft_state.declared.membership.SnapshotMeta.{SnapshotMeta}
+use Rattle.raft_node.specs.raft_state.declared.membership.StoredMembership.{StoredMembership}
+use Rattle.raft_node.specs.raft_state.Log.{at}
+use Rattle.raft_node.specs.raft_state.Order.{last_id_cmp, next}
+use Rattle.raft_node.specs.raft_state.Same.{nat_same}
+use Rattle.raft_node.specs.raft_state.State.{accepted}
+use Rattle.raft_node.proofs.raft_state_proofs.Orders.{within_next}
+use Rattle.raft_node.specs.raft_progress_entry.declared.entry.ProgressEntry.{ProgressEntry}
+use Rattle.raft_node.specs.raft_command.declared.config.EngineConfig.{EngineConfig}
+use Rattle.raft_node.specs.raft_command.declared.message.Token.{Token}
+use Rattle.raft_node.specs.raft_command.declared.sm.CommandPayload.TheVariants as payload
+use Rattle.raft_node.specs.raft_command.Push.{ordered}
+use Rattle.raft_node.specs.raft_steps.FollowingHandler.{truncate_logs}
+use Rattle.raft_node.specs.raft_steps.InstallRefusals.{refusals_of_install}
+use Rattle.raft_node.specs.raft_steps.Installs.{handle_install_full_snapshot, has_other_at, held_upto, install_and_reply, install_full_snapshot, install_upto, installs, replaces_log, reply_install, truncate_contradicted, with_memberships_of}
+use Rattle.raft_node.specs.raft_steps.LogHandler.{schedule_policy_based_purge, try_purge_log, update_purge_upto}
+use Rattle.raft_node.specs.raft_steps.Parts.{on_core, with_state}
+use Rattle.raft_node.specs.raft_steps.Refusals.{rows_in}
+use Rattle.raft_node.specs.raft_steps.ServerStateHandler.{update_role}
+use Rattle.raft_node.specs.raft_steps.SnapshotCalls.{built, finish_building_snapshot, purge_to_index, trigger_purge_log}
+use Rattle.raft_node.specs.raft_steps.SnapshotHandler.{is_newer_snapshot, trigger_snapshot, update_snapshot}
+use Rattle.raft_node.specs.raft_steps.VoteHandler.{rejects_vote, update_vote}
+use Rattle.raft_node.proofs.raft_steps_proofs.KeptAppend.{truncate_case}
+use Rattle.raft_node.proofs.raft_steps_proofs.KeptFollow.{heard_case}
 use Rattle.proof_agreement.specs.Machine.{Setup}
-use Rattle.raft_store.specs.declared.entry.Entry.{Entry}
-use Rattle.raft_store.specs.Entries.{entry_meaning}
-use Rattle.raft_store.specs.Types.{WorldMachine, WorldSnapshot, WorldStore}
+use Rattle.raft_node.specs.raft_store.declared.entry.Entry.{Entry}
+use Rattle.raft_node.specs.raft_store.Entries.{entry_meaning}
+use Rattle.raft_node.specs.raft_store.Types.{WorldMachine, WorldSnapshot, WorldStore}
 use Rattle.proof_mirror.proofs.Installing.{InstallFits}
 use Rattle.proof_mirror.proofs.Starting.{install_fits}
-use Rattle.raft_calls.specs.declared.message.Body.TheVariants as body
-use Rattle.raft_calls.specs.declared.message.Message.{Message}
-use Rattle.raft_calls.specs.declared.message.Origin.{Origin}
+use Rattle.raft_node.specs.raft_calls.declared.message.Body.TheVariants as body
+use Rattle.raft_node.specs.raft_calls.declared.message.Message.{Message}
+use Rattle.raft_node.specs.raft_calls.declared.message.Origin.{Origin}
 use Rattle.raft_node.specs.declared.node.Turn.{Turn}
 use Rattle.proof_deeds.specs.Chains.{left_by}
 use Rattle.proof_deeds.specs.Images.{Ideal, number, setup_of}

@@ -4,30 +4,30 @@ use Rattle.std.specs.Prelude.{IfSome, true}
 use Rattle.std.specs.Ordering.{nat_cmp}
 use Rattle.std.proofs.lemmas.Bool.{cond_both}
 use Rattle.std.proofs.lemmas.Cmp.{nat_cmp_total}
-use Rattle.raft_state.specs.declared.membership.Members.{Members}
-use Rattle.raft_state.specs.Same.{nat_same}
-use Rattle.raft_command.specs.declared.sm.CommandPayload.TheVariants as payload
-use Rattle.raft_command.specs.Push.{ordered}
-use Rattle.raft_steps.specs.InstallRefusals.{refusals_of_install}
-use Rattle.raft_steps.specs.Installs.{handle_install_full_snapshot}
-use Rattle.raft_steps.specs.Parts.{on_core}
-use Rattle.raft_steps.specs.Refusals.{refusals_of_spent, refusals_of_trigger_snapshot}
-use Rattle.raft_steps.specs.SnapshotCalls.{trigger_purge_log}
-use Rattle.raft_steps.specs.SnapshotHandler.{trigger_snapshot}
-use Rattle.raft_store.specs.Entries.{entry_meaning}
-use Rattle.raft_store.specs.Types.{EngineView, WorldSnapshot, WorldStore}
+use Rattle.raft_node.specs.raft_state.declared.membership.Members.{Members}
+use Rattle.raft_node.specs.raft_state.Same.{nat_same}
+use Rattle.raft_node.specs.raft_command.declared.sm.CommandPayload.TheVariants as payload
+use Rattle.raft_node.specs.raft_command.Push.{ordered}
+use Rattle.raft_node.specs.raft_steps.InstallRefusals.{refusals_of_install}
+use Rattle.raft_node.specs.raft_steps.Installs.{handle_install_full_snapshot}
+use Rattle.raft_node.specs.raft_steps.Parts.{on_core}
+use Rattle.raft_node.specs.raft_steps.Refusals.{refusals_of_spent, refusals_of_trigger_snapshot}
+use Rattle.raft_node.specs.raft_steps.SnapshotCalls.{trigger_purge_log}
+use Rattle.raft_node.specs.raft_steps.SnapshotHandler.{trigger_snapshot}
+use Rattle.raft_node.specs.raft_store.Entries.{entry_meaning}
+use Rattle.raft_node.specs.raft_store.Types.{EngineView, WorldSnapshot, WorldStore}
 use Rattle.proof_mirror.specs.Ready.{KnowsLog, Ordered}
 use Rattle.proof_mirror.proofs.Committing.{pending_trigger}
 use Rattle.proof_mirror.proofs.Proposes.{takes_id}
 use Rattle.proof_mirror.proofs.Purging.{pending_purge_to}
 use Rattle.proof_mirror.proofs.Starting.{pending_handle_install}
-use Rattle.raft_calls.specs.declared.message.Body.TheVariants as body
-use Rattle.raft_calls.specs.declared.message.Message.{Message}
-use Rattle.raft_calls.specs.declared.message.Origin.{Origin}
+use Rattle.raft_node.specs.raft_calls.declared.message.Body.TheVariants as body
+use Rattle.raft_node.specs.raft_calls.declared.message.Message.{Message}
+use Rattle.raft_node.specs.raft_calls.declared.message.Origin.{Origin}
 use Rattle.raft_node.specs.declared.node.Turn.{Turn}
-use Rattle.raft_calls.specs.Deliveries.{reply_token, take_snapshot}
-use Rattle.raft_calls.specs.Held.{IsReady}
-use Rattle.raft_calls.specs.Snapshots.{purge_triggered, snapshot_triggered}
+use Rattle.raft_node.specs.raft_calls.Deliveries.{reply_token, take_snapshot}
+use Rattle.raft_node.specs.raft_calls.Held.{IsReady}
+use Rattle.raft_node.specs.raft_calls.Snapshots.{purge_triggered, snapshot_triggered}
 use Rattle.proof_deeds.specs.Chains.{Reached}
 use Rattle.proof_deeds.specs.Images.{Ideal, setup_of}
 use Rattle.proof_deeds.specs.Knows.{Delivered}

@@ -1,10 +1,10 @@
 -- The laws of snapshots, purges and starts, of a node that stands.
 use Rattle.std.proofs.Common.{ℕ, ◌<◌, ◌≡◌, ◌∙◌, ap, sym, Bool}
 use Rattle.std.specs.Ordering.{nat_cmp}
-use Rattle.raft_state.specs.declared.membership.Members.{Members}
-use Rattle.raft_command.specs.declared.config.EngineConfig.{EngineConfig}
-use Rattle.raft_store.specs.Entries.{entry_meaning}
-use Rattle.raft_store.specs.Types.{WorldStore}
+use Rattle.raft_node.specs.raft_state.declared.membership.Members.{Members}
+use Rattle.raft_node.specs.raft_command.declared.config.EngineConfig.{EngineConfig}
+use Rattle.raft_node.specs.raft_store.Entries.{entry_meaning}
+use Rattle.raft_node.specs.raft_store.Types.{WorldStore}
 use Rattle.proof_mirror.specs.Ready.{Ordered, Shaped}
 use Rattle.raft_node.specs.declared.node.Turn.{Turn}
 use Rattle.proof_deeds.specs.Chains.{Reached}

@@ -8,37 +8,37 @@ use Rattle.std.specs.Ordering.{nat_cmp}
 use Rattle.std.proofs.lemmas.Bool.{cond_both}
 use Rattle.std.proofs.lemmas.Bool.Decides.{nat_tests}
 use Rattle.std.proofs.lemmas.List.{length-map}
-use Rattle.raft_state.specs.declared.ids.LogId.{LogId}
-use Rattle.raft_state.specs.declared.ids.Vote.{Vote}
-use Rattle.raft_state.specs.declared.membership.Members.{Members}
-use Rattle.raft_state.specs.Log.{last}
-use Rattle.raft_state.specs.Order.{next}
-use Rattle.raft_state.specs.State.{is_leader}
-use Rattle.raft_command.specs.declared.config.EngineConfig.{EngineConfig}
-use Rattle.raft_steps.specs.FollowingHandler.{memberships_in}
-use Rattle.raft_steps.specs.Parts.{idle, leading, led_of, on_core, on_leader, with_state}
-use Rattle.raft_steps.specs.Refusals.{blank_is_at_end}
-use Rattle.raft_steps.specs.ReplicationHandler.{initiate_replication, update_local_progress}
-use Rattle.raft_steps.specs.Starts.{is_settled, lead_on, leader_step_down, started_role, startup}
-use Rattle.raft_steps.specs.VoteHandler.{update_internal_server_state}
-use Rattle.raft_steps.proofs.Marks.{SameMarks, internal_marks}
+use Rattle.raft_node.specs.raft_state.declared.ids.LogId.{LogId}
+use Rattle.raft_node.specs.raft_state.declared.ids.Vote.{Vote}
+use Rattle.raft_node.specs.raft_state.declared.membership.Members.{Members}
+use Rattle.raft_node.specs.raft_state.Log.{last}
+use Rattle.raft_node.specs.raft_state.Order.{next}
+use Rattle.raft_node.specs.raft_state.State.{is_leader}
+use Rattle.raft_node.specs.raft_command.declared.config.EngineConfig.{EngineConfig}
+use Rattle.raft_node.specs.raft_steps.FollowingHandler.{memberships_in}
+use Rattle.raft_node.specs.raft_steps.Parts.{idle, leading, led_of, on_core, on_leader, with_state}
+use Rattle.raft_node.specs.raft_steps.Refusals.{blank_is_at_end}
+use Rattle.raft_node.specs.raft_steps.ReplicationHandler.{initiate_replication, update_local_progress}
+use Rattle.raft_node.specs.raft_steps.Starts.{is_settled, lead_on, leader_step_down, started_role, startup}
+use Rattle.raft_node.specs.raft_steps.VoteHandler.{update_internal_server_state}
+use Rattle.raft_node.proofs.raft_steps_proofs.Marks.{SameMarks, internal_marks}
 use Rattle.proof_agreement.specs.Machine.{last_membership, start}
 use Rattle.proof_agreement.specs.Stores.{entry_at, whole}
 use Rattle.proof_agreement.proofs.Memberships.{last-is}
 use Rattle.proof_agreement.proofs.StoresBridge.{begins_first}
 use Rattle.proof_agreement.proofs.StoresFollow.{StoresFollow}
-use Rattle.raft_store.specs.declared.entry.Entry.{Entry}
-use Rattle.raft_store.specs.Entries.{entry_meaning, members_of}
-use Rattle.raft_store.specs.Mirror.{last_two, none}
-use Rattle.raft_store.specs.Restart.{restarted, started}
-use Rattle.raft_store.specs.Store as store
-use Rattle.raft_store.specs.Types.{WorldLeader, WorldMachine, WorldStore}
-use Rattle.raft_store.proofs.Lists.{Run}
+use Rattle.raft_node.specs.raft_store.declared.entry.Entry.{Entry}
+use Rattle.raft_node.specs.raft_store.Entries.{entry_meaning, members_of}
+use Rattle.raft_node.specs.raft_store.Mirror.{last_two, none}
+use Rattle.raft_node.specs.raft_store.Restart.{restarted, started}
+use Rattle.raft_node.specs.raft_store.Store as store
+use Rattle.raft_node.specs.raft_store.Types.{WorldLeader, WorldMachine, WorldStore}
+use Rattle.raft_node.proofs.raft_store_proofs.Lists.{Run}
 use Rattle.proof_mirror.specs.Ready.{InStep}
 use Rattle.proof_mirror.proofs.Shape.{shape_of, whole_run}
 use Rattle.raft_node.specs.declared.node.Turn.{Turn}
-use Rattle.raft_calls.specs.Elections.{first_entry}
-use Rattle.raft_calls.specs.Feeds.{WorldLed}
+use Rattle.raft_node.specs.raft_calls.Elections.{first_entry}
+use Rattle.raft_node.specs.raft_calls.Feeds.{WorldLed}
 use Rattle.proof_deeds.specs.Chains.{Carried, Reached}
 use Rattle.proof_deeds.specs.Follows.{StoreIs}
 use Rattle.proof_deeds.specs.Images.{Ideal, IdealEntry, image, images, number, setup_of}

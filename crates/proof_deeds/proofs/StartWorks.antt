@@ -2,27 +2,27 @@
 use Rattle.std.proofs.Common.{ℕ, ◌<◌, ◌≡◌, Bool, false, List, refl, sym, ◌∙◌, subst, Option, Some, None}
 use Rattle.std.specs.Ordering.{nat_cmp}
 use Rattle.std.proofs.lemmas.Cmp.{nat_cmp_total}
-use Rattle.raft_state.specs.Same.{nat_same}
-use Rattle.raft_state.specs.declared.membership.Members.{Members}
-use Rattle.raft_error.specs.declared.error.EngineError.{EngineError}
-use Rattle.raft_command.specs.declared.config.EngineConfig.{EngineConfig}
-use Rattle.raft_steps.specs.Starts.{refusals_of_startup, startup}
-use Rattle.raft_store.specs.declared.entry.Entry.{Entry}
-use Rattle.raft_store.specs.Entries.{entry_meaning}
-use Rattle.raft_store.specs.Restart.{forgotten, restarted}
-use Rattle.raft_store.specs.Types.{EngineView, WorldStore}
+use Rattle.raft_node.specs.raft_state.Same.{nat_same}
+use Rattle.raft_node.specs.raft_state.declared.membership.Members.{Members}
+use Rattle.raft_node.specs.raft_error.declared.error.EngineError.{EngineError}
+use Rattle.raft_node.specs.raft_command.declared.config.EngineConfig.{EngineConfig}
+use Rattle.raft_node.specs.raft_steps.Starts.{refusals_of_startup, startup}
+use Rattle.raft_node.specs.raft_store.declared.entry.Entry.{Entry}
+use Rattle.raft_node.specs.raft_store.Entries.{entry_meaning}
+use Rattle.raft_node.specs.raft_store.Restart.{forgotten, restarted}
+use Rattle.raft_node.specs.raft_store.Types.{EngineView, WorldStore}
 use Rattle.proof_agreement.specs.Deeds.{ForgetSaved, put}
 use Rattle.proof_agreement.proofs.Logs.{updated_other}
 use Rattle.proof_mirror.specs.Ready.{Ordered, Shaped}
 use Rattle.proof_mirror.proofs.Starting.{pending_startup}
 use Rattle.raft_node.specs.declared.node.Turn.{Turn}
-use Rattle.raft_calls.specs.Deliveries.{answered, with_machine}
+use Rattle.raft_node.specs.raft_calls.Deliveries.{answered, with_machine}
 use Rattle.raft_node.specs.Events.{work_of}
-use Rattle.raft_calls.specs.Held.{IsReady}
+use Rattle.raft_node.specs.raft_calls.Held.{IsReady}
 use Rattle.raft_node.specs.Net.{NodeView, Records}
-use Rattle.raft_calls.specs.Starts.{begun_anew, resumed}
+use Rattle.raft_node.specs.raft_calls.Starts.{begun_anew, resumed}
 use Rattle.raft_node.specs.Starts.{engine_on, resumed_on, started_with, unsaved}
-use Rattle.raft_calls.proofs.StartReady.{begun_one}
+use Rattle.raft_node.proofs.raft_calls_proofs.StartReady.{begun_one}
 use Rattle.proof_deeds.specs.Chains.{Does, Reached}
 use Rattle.proof_deeds.specs.Follows.{RecordsAre, StoreIs}
 use Rattle.proof_deeds.specs.Images.{Ideal, IdealStore, setup_of}

@@ -2,21 +2,21 @@
 use Rattle.std.proofs.Common.{ℕ, ◌<◌, ◌≡◌, Bool, false, refl, None}
 use Rattle.std.specs.Ordering.{nat_cmp}
 use Rattle.std.proofs.lemmas.Cmp.{nat_cmp_total}
-use Rattle.raft_state.specs.declared.membership.Members.{Members}
-use Rattle.raft_state.specs.declared.state.RaftState.{RaftState}
-use Rattle.raft_state.specs.Invariants.{IsSoundState}
-use Rattle.raft_state.specs.Same.{nat_same}
-use Rattle.raft_command.specs.declared.config.EngineConfig.{EngineConfig}
-use Rattle.raft_error.specs.declared.error.EngineError.TheVariants.{IndexEnd}
-use Rattle.raft_steps.specs.Refusals.{blank_is_at_end, refusals_of_counter}
-use Rattle.raft_steps.specs.Parts.{idle}
-use Rattle.raft_steps.specs.Starts.{refusals_of_startup, startup}
-use Rattle.raft_steps.proofs.KeptEngine.{idle_is_sound}
-use Rattle.raft_steps.proofs.Unrefused.{neither, test_fails}
-use Rattle.raft_store.specs.Entries.{entry_meaning}
-use Rattle.raft_store.specs.Types.{WorldStore, WorldMachine}
+use Rattle.raft_node.specs.raft_state.declared.membership.Members.{Members}
+use Rattle.raft_node.specs.raft_state.declared.state.RaftState.{RaftState}
+use Rattle.raft_node.specs.raft_state.Invariants.{IsSoundState}
+use Rattle.raft_node.specs.raft_state.Same.{nat_same}
+use Rattle.raft_node.specs.raft_command.declared.config.EngineConfig.{EngineConfig}
+use Rattle.raft_node.specs.raft_error.declared.error.EngineError.TheVariants.{IndexEnd}
+use Rattle.raft_node.specs.raft_steps.Refusals.{blank_is_at_end, refusals_of_counter}
+use Rattle.raft_node.specs.raft_steps.Parts.{idle}
+use Rattle.raft_node.specs.raft_steps.Starts.{refusals_of_startup, startup}
+use Rattle.raft_node.proofs.raft_steps_proofs.KeptEngine.{idle_is_sound}
+use Rattle.raft_node.proofs.raft_steps_proofs.Unrefused.{neither, test_fails}
+use Rattle.raft_node.specs.raft_store.Entries.{entry_meaning}
+use Rattle.raft_node.specs.raft_store.Types.{WorldStore, WorldMachine}
 use Rattle.proof_mirror.specs.Ready.{Shaped, Ordered, InStep}
-use Rattle.raft_store.specs.Restart.{restarted, started}
+use Rattle.raft_node.specs.raft_store.Restart.{restarted, started}
 use Rattle.proof_mirror.proofs.Restarting.{restart_in_step}
 use Rattle.proof_mirror.proofs.Shape.{shaped_of}
 use Rattle.raft_node.specs.declared.node.Turn.{Turn}

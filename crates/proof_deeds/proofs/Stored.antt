@@ -6,20 +6,20 @@ use Rattle.std.specs.List.{AllByRecursion}
 use Rattle.std.specs.Map.{values_of}
 use Rattle.std.proofs.lemmas.Bool.{cases_lt, lt-ltb, le-ltb, le-leb, lt-leb, eq-eqb}
 use Rattle.std.proofs.lemmas.List.{length-map, drop-map, take-map, drop-drop, drop-take, get_or-drop}
-use Rattle.raft_state.specs.declared.ids.LogId.{LogId}
-use Rattle.raft_state.specs.Invariants.{first_index}
-use Rattle.raft_state.specs.Log.{last, at}
-use Rattle.raft_state.specs.LogLaws.{IsRun, at-run}
-use Rattle.raft_state.specs.Order.{next}
+use Rattle.raft_node.specs.raft_state.declared.ids.LogId.{LogId}
+use Rattle.raft_node.specs.raft_state.Invariants.{first_index}
+use Rattle.raft_node.specs.raft_state.Log.{last, at}
+use Rattle.raft_node.specs.raft_state.LogLaws.{IsRun, at-run}
+use Rattle.raft_node.specs.raft_state.Order.{next}
 use Rattle.proof_agreement.specs.Machine.{Setup, last_leader}
 use Rattle.proof_agreement.specs.Stores.{whole, entry_at, first_entry}
 use Rattle.proof_agreement.specs.Deeds.{Reaches}
 use Rattle.proof_agreement.proofs.WholeLogs.{get_left, whole_length}
-use Rattle.raft_store.specs.declared.entry.Entry.{Entry}
-use Rattle.raft_store.specs.Entries.{entry_meaning}
-use Rattle.raft_store.specs.Store.{between}
-use Rattle.raft_store.specs.Types.{WorldStore}
-use Rattle.raft_store.proofs.Lists.{Run, under, under_none, run_under, filter_with, values_with, filter_ext}
+use Rattle.raft_node.specs.raft_store.declared.entry.Entry.{Entry}
+use Rattle.raft_node.specs.raft_store.Entries.{entry_meaning}
+use Rattle.raft_node.specs.raft_store.Store.{between}
+use Rattle.raft_node.specs.raft_store.Types.{WorldStore}
+use Rattle.raft_node.proofs.raft_store_proofs.Lists.{Run, under, under_none, run_under, filter_with, values_with, filter_ext}
 use Rattle.proof_mirror.specs.Ready.{Shaped, IsStored}
 use Rattle.proof_mirror.proofs.Commits.{behind_at}
 use Rattle.proof_mirror.proofs.Places.{at_reaches}

@@ -4,15 +4,15 @@ use Rattle.std.specs.Prelude.{IfSome}
 use Rattle.std.specs.Map.{values_of}
 use Rattle.std.specs.Option.{option_to_list}
 use Rattle.std.specs.Ordering.{nat_cmp}
-use Rattle.raft_state.specs.declared.ids.LogId.{LogId}
-use Rattle.raft_state.specs.Invariants.{first_index}
-use Rattle.raft_state.specs.LogLaws.{IsRun}
-use Rattle.raft_command.specs.declared.command.Command.TheVariants.{SaveVote, AppendInputEntries, DeleteConflictLog, PurgeLog, Commit, StateMachine, BecomeLeader, QuitLeader, ReplicateCommitted, Replicate, RebuildReplicationStreams, SendVote, Respond}
-use Rattle.raft_store.specs.declared.entry.Entry.{Entry}
-use Rattle.raft_store.specs.Entries.{entry_meaning}
-use Rattle.raft_store.specs.Mirror.{ids_of, keyed}
-use Rattle.raft_store.specs.Ring.{CanStore, Continues}
-use Rattle.raft_store.specs.Types.{WorldCommand, WorldStore}
+use Rattle.raft_node.specs.raft_state.declared.ids.LogId.{LogId}
+use Rattle.raft_node.specs.raft_state.Invariants.{first_index}
+use Rattle.raft_node.specs.raft_state.LogLaws.{IsRun}
+use Rattle.raft_node.specs.raft_command.declared.command.Command.TheVariants.{SaveVote, AppendInputEntries, DeleteConflictLog, PurgeLog, Commit, StateMachine, BecomeLeader, QuitLeader, ReplicateCommitted, Replicate, RebuildReplicationStreams, SendVote, Respond}
+use Rattle.raft_node.specs.raft_store.declared.entry.Entry.{Entry}
+use Rattle.raft_node.specs.raft_store.Entries.{entry_meaning}
+use Rattle.raft_node.specs.raft_store.Mirror.{ids_of, keyed}
+use Rattle.raft_node.specs.raft_store.Ring.{CanStore, Continues}
+use Rattle.raft_node.specs.raft_store.Types.{WorldCommand, WorldStore}
 use Rattle.raft_node.specs.MayKeep.{CanStoreFirst}
 use Rattle.proof_mirror.specs.Ready.{FitsBefore, MayPut, Ready, Shaped}
 

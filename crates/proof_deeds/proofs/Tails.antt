@@ -7,24 +7,24 @@ use Rattle.std.specs.Ordering.{nat_cmp}
 use Rattle.std.proofs.lemmas.Bool.{cases_lt, lt-ltb}
 use Rattle.std.proofs.lemmas.Cmp.{nat_cmp_total}
 use Rattle.std.proofs.lemmas.List.{map-append, length-map, drop-map}
-use Rattle.raft_state.specs.declared.ids.LogId.{LogId}
-use Rattle.raft_state.specs.declared.state.RaftState.{RaftState}
-use Rattle.raft_state.specs.Fits.{fits, is_within}
-use Rattle.raft_state.specs.Invariants.{IsSoundState}
-use Rattle.raft_state.specs.Log.{last, at}
-use Rattle.raft_state.specs.LogLaws.{IsRun, at-run, at-append}
-use Rattle.raft_state.specs.Order.{next}
-use Rattle.raft_state.specs.Same.{nat_same}
-use Rattle.raft_state.proofs.LogLists.{fits_has, each_append}
-use Rattle.raft_state.proofs.Orders.{within_trans}
+use Rattle.raft_node.specs.raft_state.declared.ids.LogId.{LogId}
+use Rattle.raft_node.specs.raft_state.declared.state.RaftState.{RaftState}
+use Rattle.raft_node.specs.raft_state.Fits.{fits, is_within}
+use Rattle.raft_node.specs.raft_state.Invariants.{IsSoundState}
+use Rattle.raft_node.specs.raft_state.Log.{last, at}
+use Rattle.raft_node.specs.raft_state.LogLaws.{IsRun, at-run, at-append}
+use Rattle.raft_node.specs.raft_state.Order.{next}
+use Rattle.raft_node.specs.raft_state.Same.{nat_same}
+use Rattle.raft_node.proofs.raft_state_proofs.LogLists.{fits_has, each_append}
+use Rattle.raft_node.proofs.raft_state_proofs.Orders.{within_trans}
 use Rattle.proof_agreement.specs.Machine.{Setup, last_leader}
 use Rattle.proof_agreement.specs.Stores.{whole, entry_at, last_leader_of}
 use Rattle.proof_agreement.specs.Deeds.{Reaches}
-use Rattle.raft_store.specs.declared.entry.Entry.{Entry}
-use Rattle.raft_store.specs.Entries.{entry_meaning}
-use Rattle.raft_store.specs.Store as store
-use Rattle.raft_store.specs.Types.{WorldStore}
-use Rattle.raft_store.proofs.Lists.{Run, onward, onward_all, next_last}
+use Rattle.raft_node.specs.raft_store.declared.entry.Entry.{Entry}
+use Rattle.raft_node.specs.raft_store.Entries.{entry_meaning}
+use Rattle.raft_node.specs.raft_store.Store as store
+use Rattle.raft_node.specs.raft_store.Types.{WorldStore}
+use Rattle.raft_node.proofs.raft_store_proofs.Lists.{Run, onward, onward_all, next_last}
 use Rattle.proof_mirror.specs.Ready.{Shaped, InStep}
 use Rattle.proof_mirror.proofs.Commits.{whole_at}
 use Rattle.proof_mirror.proofs.Shape.{Shape, shape_of, run_of_ids, past_keyed, whole_end, whole_run, ids_of_run, applied_length, shaped_of}

@@ -4,31 +4,31 @@ use Rattle.std.specs.Prelude.{IfSome, if◌then◌else◌}
 use Rattle.std.specs.List.{AllByRecursion}
 use Rattle.std.specs.Ordering.{is_eq, nat_cmp}
 use Rattle.std.proofs.lemmas.Cmp.{nat_cmp_total}
-use Rattle.raft_state.specs.declared.ids.LogId.{LogId}
-use Rattle.raft_state.specs.declared.membership.Members.{Members}
-use Rattle.raft_state.specs.Order.{vote_cmp}
-use Rattle.raft_command.specs.declared.command.Command.TheVariants as command
-use Rattle.raft_command.specs.declared.replication.ReplicationSessionId.{ReplicationSessionId}
-use Rattle.raft_command.specs.declared.sm.CommandPayload.TheVariants as payload
-use Rattle.raft_command.specs.Queue.{popped}
-use Rattle.raft_steps.specs.Laws.{Queues}
-use Rattle.raft_steps.specs.Parts.{led_of}
-use Rattle.raft_steps.proofs.LawsQueue.{handle_vote_resp_queues, local_queues}
-use Rattle.raft_steps.specs.Refusals.{refusals_of_local_progress, refusals_of_vote_resp}
-use Rattle.raft_store.specs.declared.entry.Entry.{Entry}
-use Rattle.raft_store.specs.Entries.{entry_meaning}
-use Rattle.raft_store.specs.Types.{EngineView, WorldCandidate, WorldCommand, WorldLeader, WorldMachine, WorldPayload, WorldStore}
+use Rattle.raft_node.specs.raft_state.declared.ids.LogId.{LogId}
+use Rattle.raft_node.specs.raft_state.declared.membership.Members.{Members}
+use Rattle.raft_node.specs.raft_state.Order.{vote_cmp}
+use Rattle.raft_node.specs.raft_command.declared.command.Command.TheVariants as command
+use Rattle.raft_node.specs.raft_command.declared.replication.ReplicationSessionId.{ReplicationSessionId}
+use Rattle.raft_node.specs.raft_command.declared.sm.CommandPayload.TheVariants as payload
+use Rattle.raft_node.specs.raft_command.Queue.{popped}
+use Rattle.raft_node.specs.raft_steps.Laws.{Queues}
+use Rattle.raft_node.specs.raft_steps.Parts.{led_of}
+use Rattle.raft_node.proofs.raft_steps_proofs.LawsQueue.{handle_vote_resp_queues, local_queues}
+use Rattle.raft_node.specs.raft_steps.Refusals.{refusals_of_local_progress, refusals_of_vote_resp}
+use Rattle.raft_node.specs.raft_store.declared.entry.Entry.{Entry}
+use Rattle.raft_node.specs.raft_store.Entries.{entry_meaning}
+use Rattle.raft_node.specs.raft_store.Types.{EngineView, WorldCandidate, WorldCommand, WorldLeader, WorldMachine, WorldPayload, WorldStore}
 use Rattle.proof_mirror.specs.Ready.{FitsBefore, Ready}
 use Rattle.proof_mirror.proofs.Queued.{applied_on}
-use Rattle.raft_calls.specs.declared.feed.Feed.{Feed}
-use Rattle.raft_calls.specs.declared.feed.Feed.TheVariants.{Nothing, Saved, Stored}
+use Rattle.raft_node.specs.raft_calls.declared.feed.Feed.{Feed}
+use Rattle.raft_node.specs.raft_calls.declared.feed.Feed.TheVariants.{Nothing, Saved, Stored}
 use Rattle.raft_node.specs.declared.node.Turn.{Turn}
 use Rattle.raft_node.specs.declared.record.Decided.{Decided}
 use Rattle.raft_node.specs.Execute.{Effects, exec, exec_payload, replicate_committed, sending, to_each, replication}
-use Rattle.raft_calls.specs.Feeds.{asks_itself, called, fed, feed_of, grant_own, hold_own, own_grant}
+use Rattle.raft_node.specs.raft_calls.Feeds.{asks_itself, called, fed, feed_of, grant_own, hold_own, own_grant}
 use Rattle.raft_node.specs.Runs.{whole_logs}
 use Rattle.raft_node.specs.Work.{Work, done_of, one_less, step_of, stopped, stops, work_step, worked}
-use Rattle.raft_calls.specs.Engines.{with_queue}
+use Rattle.raft_node.specs.raft_calls.Engines.{with_queue}
 use Rattle.raft_node.proofs.Worked.{worked-keeps}
 use Rattle.proof_deeds.specs.Chains.{left_by, stored}
 use Rattle.proof_deeds.specs.Images.{Ideal}

@@ -8,64 +8,64 @@ use Rattle.std.specs.declared.cmp.Ordering.TheVariants.{Greater}
 use Rattle.std.proofs.lemmas.Bool.{cases_lt}
 use Rattle.std.proofs.lemmas.Bool.Decides.{nat_tests}
 use Rattle.std.proofs.lemmas.Cmp.{nat_cmp_total}
-use Rattle.raft_state.specs.declared.ids.LogId.{LogId}
-use Rattle.raft_state.specs.declared.ids.Vote.{Vote}
-use Rattle.raft_state.specs.Log.{last}
-use Rattle.raft_state.specs.Order.{vote_cmp}
-use Rattle.raft_state.specs.Same.{nat_same}
-use Rattle.raft_state.specs.State.{is_leading}
-use Rattle.raft_error.specs.Number.{number_of}
-use Rattle.raft_error.specs.declared.error.EngineError.{EngineError}
-use Rattle.raft_command.specs.declared.command.Command.TheVariants.{SaveVote}
-use Rattle.raft_command.specs.declared.config.EngineConfig.{EngineConfig}
-use Rattle.raft_command.specs.declared.message.VoteRequest.{VoteRequest}
-use Rattle.raft_command.specs.declared.message.VoteResponse.{VoteResponse}
-use Rattle.raft_command.specs.declared.replication.ReplicationResult.{ReplicationResult}
-use Rattle.raft_command.specs.declared.replication.ReplicationSessionId.{ReplicationSessionId}
-use Rattle.raft_command.specs.Message.{is_granted_to}
-use Rattle.raft_command.specs.Queue.{popped}
-use Rattle.raft_proposer.specs.Candidate.{candidate_of}
-use Rattle.raft_steps.specs.Engine.{default_log_id, elect, handle_vote_resp, initialize, take_grant, take_rejection}
-use Rattle.raft_steps.specs.FollowingHandler.{do_append_entries}
-use Rattle.raft_steps.specs.InstallRefusals.{refusals_of_fit, refusals_of_install}
-use Rattle.raft_steps.specs.Installs.{handle_install_full_snapshot, install_and_reply, reply_install}
-use Rattle.raft_steps.specs.Laws.{Queues}
-use Rattle.raft_steps.specs.LeaderHandler.{leader_append_entries}
-use Rattle.raft_steps.specs.Parts.{led_of, leading, on_core, then_command, with_state}
-use Rattle.raft_steps.specs.Refusals.{refusals_of_counter_led, refusals_of_elect, refusals_of_initialize, refusals_of_local_progress, refusals_of_propose, refusals_of_spent, refusals_of_trigger_snapshot, refusals_of_vote_resp}
-use Rattle.raft_steps.specs.Replies.{update_progress}
-use Rattle.raft_steps.specs.ReplicationHandler.{initiate_replication, update_local_progress}
-use Rattle.raft_steps.specs.ReplyRefusals.{refusals_of_progress}
-use Rattle.raft_steps.specs.RequestRefusals.{refusals_of_append, refusals_of_commit, refusals_of_follow, refusals_of_vote_req}
-use Rattle.raft_steps.specs.Requests.{append_answer, append_entries, follow, handle_append_entries, handle_commit_entries, handle_vote_req, refuses_vote_req}
-use Rattle.raft_steps.specs.ServerStateHandler.{update_role}
-use Rattle.raft_steps.specs.SnapshotCalls.{finish_building_snapshot, trigger_purge_log}
-use Rattle.raft_steps.specs.SnapshotHandler.{trigger_snapshot}
-use Rattle.raft_steps.specs.VoteHandler.{become_following, become_leader, rejects_vote, update_internal_server_state, update_vote}
-use Rattle.raft_steps.proofs.Kept.{either}
-use Rattle.raft_steps.proofs.KeptFollow.{heard_case, not_own}
-use Rattle.raft_steps.proofs.LawsQueue.{do_append_queues, handle_vote_resp_queues, local_queues}
-use Rattle.raft_steps.proofs.Leads.{no_order, vote_same}
-use Rattle.raft_steps.proofs.Marks.{internal_marks}
-use Rattle.raft_store.specs.declared.entry.Entry.{Entry}
-use Rattle.raft_store.specs.Built.{meta_of}
-use Rattle.raft_store.specs.Entries.{entry_meaning}
-use Rattle.raft_store.specs.Types.{EngineView, WorldCandidate, WorldCommand, WorldLeader, WorldMachine, WorldSnapshot}
-use Rattle.raft_schedule.specs.declared.event.SkipReason.{SkipReason}
-use Rattle.raft_schedule.specs.declared.event.SkipReason.TheVariants.{NotLeader, StaleSession}
-use Rattle.raft_schedule.specs.declared.event.Start.{Start}
-use Rattle.raft_calls.specs.declared.feed.Feed.{Feed}
-use Rattle.raft_calls.specs.declared.feed.Feed.TheVariants.{Saved, Stored, Nothing}
-use Rattle.raft_calls.specs.declared.message.Body.{Body}
-use Rattle.raft_calls.specs.declared.message.Body.TheVariants as body
-use Rattle.raft_calls.specs.declared.message.Origin.{Origin}
-use Rattle.raft_calls.specs.Deliveries.{answered, appended, deliver, leads_in, led_call, reply_token, same_session, skip_delivery, skip_reply, take_append, take_commit, unled_number, vote_replied, vote_requested, with_machine}
-use Rattle.raft_calls.specs.Elections.{elected, first_entry}
-use Rattle.raft_calls.specs.Engines.{with_queue}
-use Rattle.raft_calls.specs.Feeds.{WorldLed, asks_itself, called, fed, feed_of, grant_own, hold_own, own_grant}
-use Rattle.raft_calls.specs.LeaderCalls.{inflight_to, request_of, skip_step_down, value_entry}
-use Rattle.raft_calls.specs.Memberships.{groups_in, members_with, membership_entry}
-use Rattle.raft_calls.specs.Snapshots.{told_built}
+use Rattle.raft_node.specs.raft_state.declared.ids.LogId.{LogId}
+use Rattle.raft_node.specs.raft_state.declared.ids.Vote.{Vote}
+use Rattle.raft_node.specs.raft_state.Log.{last}
+use Rattle.raft_node.specs.raft_state.Order.{vote_cmp}
+use Rattle.raft_node.specs.raft_state.Same.{nat_same}
+use Rattle.raft_node.specs.raft_state.State.{is_leading}
+use Rattle.raft_node.specs.raft_error.Number.{number_of}
+use Rattle.raft_node.specs.raft_error.declared.error.EngineError.{EngineError}
+use Rattle.raft_node.specs.raft_command.declared.command.Command.TheVariants.{SaveVote}
+use Rattle.raft_node.specs.raft_command.declared.config.EngineConfig.{EngineConfig}
+use Rattle.raft_node.specs.raft_command.declared.message.VoteRequest.{VoteRequest}
+use Rattle.raft_node.specs.raft_command.declared.message.VoteResponse.{VoteResponse}
+use Rattle.raft_node.specs.raft_command.declared.replication.ReplicationResult.{ReplicationResult}
+use Rattle.raft_node.specs.raft_command.declared.replication.ReplicationSessionId.{ReplicationSessionId}
+use Rattle.raft_node.specs.raft_command.Message.{is_granted_to}
+use Rattle.raft_node.specs.raft_command.Queue.{popped}
+use Rattle.raft_node.specs.raft_proposer.Candidate.{candidate_of}
+use Rattle.raft_node.specs.raft_steps.Engine.{default_log_id, elect, handle_vote_resp, initialize, take_grant, take_rejection}
+use Rattle.raft_node.specs.raft_steps.FollowingHandler.{do_append_entries}
+use Rattle.raft_node.specs.raft_steps.InstallRefusals.{refusals_of_fit, refusals_of_install}
+use Rattle.raft_node.specs.raft_steps.Installs.{handle_install_full_snapshot, install_and_reply, reply_install}
+use Rattle.raft_node.specs.raft_steps.Laws.{Queues}
+use Rattle.raft_node.specs.raft_steps.LeaderHandler.{leader_append_entries}
+use Rattle.raft_node.specs.raft_steps.Parts.{led_of, leading, on_core, then_command, with_state}
+use Rattle.raft_node.specs.raft_steps.Refusals.{refusals_of_counter_led, refusals_of_elect, refusals_of_initialize, refusals_of_local_progress, refusals_of_propose, refusals_of_spent, refusals_of_trigger_snapshot, refusals_of_vote_resp}
+use Rattle.raft_node.specs.raft_steps.Replies.{update_progress}
+use Rattle.raft_node.specs.raft_steps.ReplicationHandler.{initiate_replication, update_local_progress}
+use Rattle.raft_node.specs.raft_steps.ReplyRefusals.{refusals_of_progress}
+use Rattle.raft_node.specs.raft_steps.RequestRefusals.{refusals_of_append, refusals_of_commit, refusals_of_follow, refusals_of_vote_req}
+use Rattle.raft_node.specs.raft_steps.Requests.{append_answer, append_entries, follow, handle_append_entries, handle_commit_entries, handle_vote_req, refuses_vote_req}
+use Rattle.raft_node.specs.raft_steps.ServerStateHandler.{update_role}
+use Rattle.raft_node.specs.raft_steps.SnapshotCalls.{finish_building_snapshot, trigger_purge_log}
+use Rattle.raft_node.specs.raft_steps.SnapshotHandler.{trigger_snapshot}
+use Rattle.raft_node.specs.raft_steps.VoteHandler.{become_following, become_leader, rejects_vote, update_internal_server_state, update_vote}
+use Rattle.raft_node.proofs.raft_steps_proofs.Kept.{either}
+use Rattle.raft_node.proofs.raft_steps_proofs.KeptFollow.{heard_case, not_own}
+use Rattle.raft_node.proofs.raft_steps_proofs.LawsQueue.{do_append_queues, handle_vote_resp_queues, local_queues}
+use Rattle.raft_node.proofs.raft_steps_proofs.Leads.{no_order, vote_same}
+use Rattle.raft_node.proofs.raft_steps_proofs.Marks.{internal_marks}
+use Rattle.raft_node.specs.raft_store.declared.entry.Entry.{Entry}
+use Rattle.raft_node.specs.raft_store.Built.{meta_of}
+use Rattle.raft_node.specs.raft_store.Entries.{entry_meaning}
+use Rattle.raft_node.specs.raft_store.Types.{EngineView, WorldCandidate, WorldCommand, WorldLeader, WorldMachine, WorldSnapshot}
+use Rattle.raft_node.specs.raft_schedule.declared.event.SkipReason.{SkipReason}
+use Rattle.raft_node.specs.raft_schedule.declared.event.SkipReason.TheVariants.{NotLeader, StaleSession}
+use Rattle.raft_node.specs.raft_schedule.declared.event.Start.{Start}
+use Rattle.raft_node.specs.raft_calls.declared.feed.Feed.{Feed}
+use Rattle.raft_node.specs.raft_calls.declared.feed.Feed.TheVariants.{Saved, Stored, Nothing}
+use Rattle.raft_node.specs.raft_calls.declared.message.Body.{Body}
+use Rattle.raft_node.specs.raft_calls.declared.message.Body.TheVariants as body
+use Rattle.raft_node.specs.raft_calls.declared.message.Origin.{Origin}
+use Rattle.raft_node.specs.raft_calls.Deliveries.{answered, appended, deliver, leads_in, led_call, reply_token, same_session, skip_delivery, skip_reply, take_append, take_commit, unled_number, vote_replied, vote_requested, with_machine}
+use Rattle.raft_node.specs.raft_calls.Elections.{elected, first_entry}
+use Rattle.raft_node.specs.raft_calls.Engines.{with_queue}
+use Rattle.raft_node.specs.raft_calls.Feeds.{WorldLed, asks_itself, called, fed, feed_of, grant_own, hold_own, own_grant}
+use Rattle.raft_node.specs.raft_calls.LeaderCalls.{inflight_to, request_of, skip_step_down, value_entry}
+use Rattle.raft_node.specs.raft_calls.Memberships.{groups_in, members_with, membership_entry}
+use Rattle.raft_node.specs.raft_calls.Snapshots.{told_built}
 use Rattle.raft_node.specs.declared.act.Act.{Act}
 use Rattle.raft_node.specs.declared.act.Act.TheVariants.{ChangeLearners, ChangeMembership, Elect, Fail, FinishSnapshot, Initialize, Propose, Read, Restart, SendHeartbeat, StepDown, Stop, Take, TriggerPurge, TriggerSnapshot}
 use Rattle.raft_node.specs.declared.given.Given.{Given}

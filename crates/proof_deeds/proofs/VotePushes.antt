@@ -5,32 +5,32 @@ use Rattle.std.specs.List.{AllByRecursion}
 use Rattle.std.specs.Option.{option_map, option_to_list}
 use Rattle.std.specs.Ordering.{nat_cmp}
 use Rattle.std.proofs.lemmas.Bool.{eq-eqb}
-use Rattle.raft_state.specs.declared.ids.LeaderId.{LeaderId}
-use Rattle.raft_state.specs.declared.ids.Vote.{Vote}
-use Rattle.raft_state.specs.Members.{voter_ids, learner_ids}
-use Rattle.raft_state.specs.Order.{next}
-use Rattle.raft_progress_entry.specs.declared.entry.ProgressEntry.{ProgressEntry}
-use Rattle.raft_command.specs.declared.command.Command.TheVariants as command
-use Rattle.raft_command.specs.declared.command.Condition.{Condition}
-use Rattle.raft_command.specs.declared.message.VoteRequest.{VoteRequest}
-use Rattle.raft_command.specs.declared.message.VoteResponse.{VoteResponse}
-use Rattle.raft_command.specs.declared.replication.ReplicationSessionId.{ReplicationSessionId}
-use Rattle.raft_command.specs.declared.respond.Respond.TheVariants as respond
-use Rattle.raft_command.specs.Sender.{Sender}
+use Rattle.raft_node.specs.raft_state.declared.ids.LeaderId.{LeaderId}
+use Rattle.raft_node.specs.raft_state.declared.ids.Vote.{Vote}
+use Rattle.raft_node.specs.raft_state.Members.{voter_ids, learner_ids}
+use Rattle.raft_node.specs.raft_state.Order.{next}
+use Rattle.raft_node.specs.raft_progress_entry.declared.entry.ProgressEntry.{ProgressEntry}
+use Rattle.raft_node.specs.raft_command.declared.command.Command.TheVariants as command
+use Rattle.raft_node.specs.raft_command.declared.command.Condition.{Condition}
+use Rattle.raft_node.specs.raft_command.declared.message.VoteRequest.{VoteRequest}
+use Rattle.raft_node.specs.raft_command.declared.message.VoteResponse.{VoteResponse}
+use Rattle.raft_node.specs.raft_command.declared.replication.ReplicationSessionId.{ReplicationSessionId}
+use Rattle.raft_node.specs.raft_command.declared.respond.Respond.TheVariants as respond
+use Rattle.raft_node.specs.raft_command.Sender.{Sender}
 use Rattle.proof_agreement.specs.Machine.{Setup}
 use Rattle.proof_agreement.specs.Stores.{Append, Session, VoteRequest as AskVote, VoteGranted, AppendRequest, SnapshotRequest, EstablishedLeader, no_session, whole, last_leader_of}
 use Rattle.proof_agreement.specs.Deeds.{SaveVote, Win, FollowByAppend, FollowBySnapshot, RequestVotes, AnswerVote, BuildStreams, EndStreams, RecordEstablished, Leads, IsCandidate, MayWin, MayTakeVote, MayAnswerVote, MayDo, last_membership_of, put, does}
-use Rattle.raft_store.specs.declared.entry.Entry.{Entry}
-use Rattle.raft_store.specs.Store as store
-use Rattle.raft_store.specs.Types.{WorldStore, WorldCommand, WorldLeader, EngineView}
+use Rattle.raft_node.specs.raft_store.declared.entry.Entry.{Entry}
+use Rattle.raft_node.specs.raft_store.Store as store
+use Rattle.raft_node.specs.raft_store.Types.{WorldStore, WorldCommand, WorldLeader, EngineView}
 use Rattle.raft_node.specs.declared.node.Streams.{Streams}
 use Rattle.raft_node.specs.declared.node.Turn.{Turn}
-use Rattle.raft_calls.specs.declared.message.Body.{Body}
-use Rattle.raft_calls.specs.declared.message.Body.TheVariants as body
-use Rattle.raft_calls.specs.declared.message.Message.{Message}
-use Rattle.raft_calls.specs.Engines.{WorldRespond}
+use Rattle.raft_node.specs.raft_calls.declared.message.Body.{Body}
+use Rattle.raft_node.specs.raft_calls.declared.message.Body.TheVariants as body
+use Rattle.raft_node.specs.raft_calls.declared.message.Message.{Message}
+use Rattle.raft_node.specs.raft_calls.Engines.{WorldRespond}
 use Rattle.raft_node.specs.Execute.{Effects, exec, others, to_each, sending, replies, reply_to}
-use Rattle.raft_calls.specs.Deliveries.{session_of}
+use Rattle.raft_node.specs.raft_calls.Deliveries.{session_of}
 use Rattle.raft_node.specs.Net.{no_streams}
 use Rattle.raft_node.specs.Runs.{whole_logs}
 use Rattle.proof_deeds.specs.Chains.{AcceptsAcknowledged, Commits, IsClaimed, LeaderFor, SavesClaimed, doer, Reads, replies_by, stored, Done}

@@ -6,27 +6,27 @@ use Rattle.std.specs.declared.cmp.Ordering.TheVariants.{Equal}
 use Rattle.std.specs.Ordering.{is_eq, is_gt, is_lt, nat_cmp, bool_cmp, ordering_then}
 use Rattle.std.proofs.lemmas.Bool.{and_parts, both_ways, cond_both}
 use Rattle.std.proofs.lemmas.Cmp.{nat_cmp_total}
-use Rattle.raft_state.specs.declared.ids.LeaderId.{LeaderId}
-use Rattle.raft_state.specs.declared.ids.LogId.{LogId}
-use Rattle.raft_state.specs.declared.ids.Vote.{Vote}
-use Rattle.raft_state.specs.declared.membership.Members.{Members}
-use Rattle.raft_state.specs.Invariants.{IsSoundState, AcceptedRecord}
-use Rattle.raft_state.specs.Order.{leader_id_cmp, vote_cmp}
-use Rattle.raft_state.specs.Same.{nat_same}
-use Rattle.raft_state.specs.State.{accepted, accepted_under, is_leader, is_leading}
-use Rattle.raft_state.proofs.Orders.{leader_total, le_lt, eq_is_le, eq_swap, lt_not_ge}
-use Rattle.raft_command.specs.declared.command.Command.TheVariants as command
-use Rattle.raft_command.specs.declared.config.EngineConfig.{EngineConfig}
-use Rattle.raft_steps.specs.Parts.{then_command, with_state, on_core}
-use Rattle.raft_steps.specs.ServerStateHandler.{update_role}
-use Rattle.raft_steps.specs.VoteHandler.{rejects_vote, take_vote, become_following, become_leader, update_internal_server_state, update_vote}
-use Rattle.raft_steps.proofs.Leads.{vote_is}
+use Rattle.raft_node.specs.raft_state.declared.ids.LeaderId.{LeaderId}
+use Rattle.raft_node.specs.raft_state.declared.ids.LogId.{LogId}
+use Rattle.raft_node.specs.raft_state.declared.ids.Vote.{Vote}
+use Rattle.raft_node.specs.raft_state.declared.membership.Members.{Members}
+use Rattle.raft_node.specs.raft_state.Invariants.{IsSoundState, AcceptedRecord}
+use Rattle.raft_node.specs.raft_state.Order.{leader_id_cmp, vote_cmp}
+use Rattle.raft_node.specs.raft_state.Same.{nat_same}
+use Rattle.raft_node.specs.raft_state.State.{accepted, accepted_under, is_leader, is_leading}
+use Rattle.raft_node.proofs.raft_state_proofs.Orders.{leader_total, le_lt, eq_is_le, eq_swap, lt_not_ge}
+use Rattle.raft_node.specs.raft_command.declared.command.Command.TheVariants as command
+use Rattle.raft_node.specs.raft_command.declared.config.EngineConfig.{EngineConfig}
+use Rattle.raft_node.specs.raft_steps.Parts.{then_command, with_state, on_core}
+use Rattle.raft_node.specs.raft_steps.ServerStateHandler.{update_role}
+use Rattle.raft_node.specs.raft_steps.VoteHandler.{rejects_vote, take_vote, become_following, become_leader, update_internal_server_state, update_vote}
+use Rattle.raft_node.proofs.raft_steps_proofs.Leads.{vote_is}
 use Rattle.proof_agreement.specs.Machine.{Includes}
 use Rattle.proof_agreement.specs.Stores.{Append, Session, AppendRequest, SnapshotRequest}
 use Rattle.proof_agreement.specs.Deeds.{MayAccept, put}
-use Rattle.raft_store.specs.declared.entry.Entry.{Entry}
-use Rattle.raft_store.specs.Entries.{entry_meaning}
-use Rattle.raft_store.specs.Types.{WorldStore, WorldMachine, WorldCandidate}
+use Rattle.raft_node.specs.raft_store.declared.entry.Entry.{Entry}
+use Rattle.raft_node.specs.raft_store.Entries.{entry_meaning}
+use Rattle.raft_node.specs.raft_store.Types.{WorldStore, WorldMachine, WorldCandidate}
 use Rattle.proof_mirror.specs.Ready.{InStep, Pending}
 use Rattle.proof_mirror.proofs.Elections.{pending_vote}
 use Rattle.raft_node.specs.declared.node.Turn.{Turn}

@@ -6,38 +6,38 @@ use Rattle.std.specs.declared.cmp.Ordering.TheVariants.{Equal, Greater}
 use Rattle.std.specs.Ordering.{is_eq, is_ge, is_gt, is_lt, nat_cmp, bool_cmp, ordering_then}
 use Rattle.std.proofs.lemmas.Bool.{both_ways}
 use Rattle.std.proofs.lemmas.List.{length-map}
-use Rattle.raft_state.specs.declared.ids.LeaderId.{LeaderId}
-use Rattle.raft_state.specs.declared.ids.LogId.{LogId}
-use Rattle.raft_state.specs.declared.ids.Vote.{Vote}
-use Rattle.raft_state.specs.declared.membership.Members.{Members}
-use Rattle.raft_state.specs.declared.membership.StoredMembership.{StoredMembership}
-use Rattle.raft_state.specs.Log.{last}
-use Rattle.raft_state.specs.Members.{contains}
-use Rattle.raft_state.specs.Order.{leader_id_cmp, next, vote_cmp}
-use Rattle.raft_state.specs.Same.{nat_same}
-use Rattle.raft_state.specs.State.{is_leader, is_leading}
-use Rattle.raft_state.proofs.Orders.{both_and, is_equal}
-use Rattle.raft_progress.specs.Quorum.{is_quorum}
-use Rattle.raft_progress.specs.Table.{holders, voter_rows}
-use Rattle.raft_progress.proofs.GrantedLaws.{granted_is_reached, granted_of, is_reached, voter_values}
-use Rattle.raft_command.specs.declared.command.Command.TheVariants as command
-use Rattle.raft_command.specs.declared.config.EngineConfig.{EngineConfig}
-use Rattle.raft_proposer.specs.Candidate.{as_committed, into_leader, is_granted}
-use Rattle.raft_steps.specs.FollowingHandler.{memberships_in}
-use Rattle.raft_store.specs.Mirror.{last_two}
-use Rattle.raft_steps.specs.Parts.{led_machine, leading, on_core, then_command, with_state}
-use Rattle.raft_steps.specs.ReplicationHandler.{initiate_replication, rebuild_replication_streams}
+use Rattle.raft_node.specs.raft_state.declared.ids.LeaderId.{LeaderId}
+use Rattle.raft_node.specs.raft_state.declared.ids.LogId.{LogId}
+use Rattle.raft_node.specs.raft_state.declared.ids.Vote.{Vote}
+use Rattle.raft_node.specs.raft_state.declared.membership.Members.{Members}
+use Rattle.raft_node.specs.raft_state.declared.membership.StoredMembership.{StoredMembership}
+use Rattle.raft_node.specs.raft_state.Log.{last}
+use Rattle.raft_node.specs.raft_state.Members.{contains}
+use Rattle.raft_node.specs.raft_state.Order.{leader_id_cmp, next, vote_cmp}
+use Rattle.raft_node.specs.raft_state.Same.{nat_same}
+use Rattle.raft_node.specs.raft_state.State.{is_leader, is_leading}
+use Rattle.raft_node.proofs.raft_state_proofs.Orders.{both_and, is_equal}
+use Rattle.raft_node.specs.raft_progress.Quorum.{is_quorum}
+use Rattle.raft_node.specs.raft_progress.Table.{holders, voter_rows}
+use Rattle.raft_node.proofs.raft_progress_proofs.GrantedLaws.{granted_is_reached, granted_of, is_reached, voter_values}
+use Rattle.raft_node.specs.raft_command.declared.command.Command.TheVariants as command
+use Rattle.raft_node.specs.raft_command.declared.config.EngineConfig.{EngineConfig}
+use Rattle.raft_node.specs.raft_proposer.Candidate.{as_committed, into_leader, is_granted}
+use Rattle.raft_node.specs.raft_steps.FollowingHandler.{memberships_in}
+use Rattle.raft_node.specs.raft_store.Mirror.{last_two}
+use Rattle.raft_node.specs.raft_steps.Parts.{led_machine, leading, on_core, then_command, with_state}
+use Rattle.raft_node.specs.raft_steps.ReplicationHandler.{initiate_replication, rebuild_replication_streams}
 use Rattle.std.specs.Cmp.{nat_cmp_is}
-use Rattle.raft_steps.specs.ServerStateHandler.{update_role}
-use Rattle.raft_steps.specs.VoteHandler.{take_vote, become_following, become_leader, lead_anew, update_internal_server_state, update_vote}
-use Rattle.raft_proposer.proofs.Elements.{In}
+use Rattle.raft_node.specs.raft_steps.ServerStateHandler.{update_role}
+use Rattle.raft_node.specs.raft_steps.VoteHandler.{take_vote, become_following, become_leader, lead_anew, update_internal_server_state, update_vote}
+use Rattle.raft_node.proofs.raft_proposer_proofs.Elements.{In}
 use Rattle.proof_agreement.specs.Machine.{Includes, IsQuorum}
 use Rattle.proof_agreement.specs.Stores.{VoteGranted, whole, effective_membership_of}
 use Rattle.proof_agreement.specs.Deeds.{BuildStreams, MayWin, put, does, Leads}
-use Rattle.raft_store.specs.declared.entry.Entry.{Entry}
-use Rattle.raft_store.specs.Entries.{entry_meaning}
-use Rattle.raft_store.specs.Store as store
-use Rattle.raft_store.specs.Types.{WorldStore, WorldMachine, WorldLeader, WorldCandidate}
+use Rattle.raft_node.specs.raft_store.declared.entry.Entry.{Entry}
+use Rattle.raft_node.specs.raft_store.Entries.{entry_meaning}
+use Rattle.raft_node.specs.raft_store.Store as store
+use Rattle.raft_node.specs.raft_store.Types.{WorldStore, WorldMachine, WorldLeader, WorldCandidate}
 use Rattle.proof_mirror.specs.Ready.{InStep, Ordered, Pending, PendingIn, PendingLed}
 use Rattle.proof_mirror.proofs.Elections.{made_knows, pending_vote}
 use Rattle.proof_mirror.proofs.Orders.{Orderly}
@@ -45,7 +45,7 @@ use Rattle.proof_mirror.proofs.Queued.{pending_role}
 use Rattle.proof_mirror.proofs.Sends.{pending_rebuild}
 use Rattle.proof_mirror.proofs.Shape.{shaped_of}
 use Rattle.raft_node.specs.declared.node.Turn.{Turn}
-use Rattle.raft_calls.specs.Feeds.{WorldLed}
+use Rattle.raft_node.specs.raft_calls.Feeds.{WorldLed}
 use Rattle.proof_deeds.proofs.Noops.{made_above}
 use Rattle.proof_deeds.specs.Chains.{Carried, Reached, left_by}
 use Rattle.proof_deeds.specs.Follows.{StoreIs}
@@ -62,8 +62,8 @@ use Rattle.proof_deeds.proofs.Pushes.{carry, push}
 use Rattle.proof_deeds.proofs.VotePushes.{done_win}
 use Rattle.proof_deeds.proofs.Voting.{followed_accepted}
 use Rattle.proof_deeds.proofs.Worlds.{at_put, does_then, within_does}
-use Rattle.raft_state.specs.Invariants.{IsSoundState}
-use Rattle.raft_steps.specs.LeaderHandler.{leader_append_entries, proposed}
+use Rattle.raft_node.specs.raft_state.Invariants.{IsSoundState}
+use Rattle.raft_node.specs.raft_steps.LeaderHandler.{leader_append_entries, proposed}
 use Rattle.proof_deeds.proofs.Roles.{WorldCore, WorldState, carried_role, role_of_leader, tail_leads}
 use Rattle.proof_deeds.proofs.Tails.{tail_named, tail_vote, tail_vote_committed, tail_whole, whole_fit}
 

@@ -5,20 +5,20 @@ use Rattle.std.specs.List.{AllByRecursion, list_any}
 use Rattle.std.specs.Ordering.{nat_cmp}
 use Rattle.std.proofs.lemmas.Bool.Decides.{nat_tests}
 use Rattle.std.proofs.lemmas.List.Elements.{recursion_from_All}
-use Rattle.raft_state.specs.State.{empty}
-use Rattle.raft_command.specs.declared.config.EngineConfig.{EngineConfig}
+use Rattle.raft_node.specs.raft_state.State.{empty}
+use Rattle.raft_node.specs.raft_command.declared.config.EngineConfig.{EngineConfig}
 use Rattle.proof_agreement.specs.Stores as stores
-use Rattle.raft_steps.proofs.Unrefused.{or_fails}
-use Rattle.raft_store.specs.Entries.{entry_meaning}
-use Rattle.raft_store.specs.Store.{no_store}
+use Rattle.raft_node.proofs.raft_steps_proofs.Unrefused.{or_fails}
+use Rattle.raft_node.specs.raft_store.Entries.{entry_meaning}
+use Rattle.raft_node.specs.raft_store.Store.{no_store}
 use Rattle.proof_mirror.proofs.Restarting.{new_in_step, new_ordered}
 use Rattle.proof_mirror.proofs.Shape.{shaped_of}
-use Rattle.raft_schedule.specs.declared.event.Event.{Event}
+use Rattle.raft_node.specs.raft_schedule.declared.event.Event.{Event}
 use Rattle.raft_node.specs.Net.{NodeView, empty_net, new_node, no_records}
 use Rattle.raft_node.specs.declared.given.Given.{Given}
 use Rattle.raft_node.specs.Runs.{moment, start, world_after}
 use Rattle.raft_node.specs.WellFormed.{IsWellFormed, has_twice}
-use Rattle.raft_calls.proofs.Ready.{new_resting}
+use Rattle.raft_node.proofs.raft_calls_proofs.Ready.{new_resting}
 use Rattle.proof_deeds.specs.Images.{Ideal, setup_of}
 use Rattle.proof_deeds.specs.Nets.{AllApart, NodeFollows}
 use Rattle.proof_deeds.proofs.Calls.{CallLaws, WorldState}

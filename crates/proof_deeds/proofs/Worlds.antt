@@ -7,15 +7,15 @@ use Rattle.proof_agreement.specs.Stores.{Message, Store, Stores, no_session, Exe
 use Rattle.proof_agreement.specs.Deeds.{Deed, SaveVote, Win, FollowByAppend, FollowBySnapshot, RequestVotes, AnswerVote, Initialize, LeaderAppend, FollowerAppend, TruncateConflict, TruncateForSnapshot, Purge, BuildStreams, EndStreams, RecordEstablished, SendAppend, SendSnapshot, AcceptAppend, AcceptSnapshot, CommitByQuorum, FollowerCommit, LeaderCommit, Apply, InstallSnapshot, Note, BuildSnapshot, DropNote, ForgetSaved, Restart, RestartSaved, HasAccepted, MayDo, AllMayDo, put, does, run_all}
 use Rattle.proof_agreement.proofs.Logs.{updated_all, updated_same, updated_other}
 use Rattle.proof_agreement.proofs.StoresTheorems.{run_all-append, all_join}
-use Rattle.raft_state.specs.declared.ids.LeaderId.{LeaderId}
-use Rattle.raft_state.specs.declared.ids.LogId.{LogId}
-use Rattle.raft_state.specs.declared.ids.Vote.{Vote}
-use Rattle.raft_command.specs.declared.replication.ReplicationSessionId.{ReplicationSessionId}
-use Rattle.raft_store.specs.declared.entry.Entry.{Entry}
-use Rattle.raft_store.specs.Types.{WorldCommand, WorldStore}
-use Rattle.raft_calls.specs.declared.message.Body.{Body}
+use Rattle.raft_node.specs.raft_state.declared.ids.LeaderId.{LeaderId}
+use Rattle.raft_node.specs.raft_state.declared.ids.LogId.{LogId}
+use Rattle.raft_node.specs.raft_state.declared.ids.Vote.{Vote}
+use Rattle.raft_node.specs.raft_command.declared.replication.ReplicationSessionId.{ReplicationSessionId}
+use Rattle.raft_node.specs.raft_store.declared.entry.Entry.{Entry}
+use Rattle.raft_node.specs.raft_store.Types.{WorldCommand, WorldStore}
+use Rattle.raft_node.specs.raft_calls.declared.message.Body.{Body}
 use Rattle.raft_node.specs.declared.node.Turn.{Turn}
-use Rattle.raft_calls.specs.declared.message.Body.TheVariants as body
+use Rattle.raft_node.specs.raft_calls.declared.message.Body.TheVariants as body
 use Rattle.raft_node.specs.Net.{Records, no_streams}
 use Rattle.raft_node.specs.Execute.{Effects, effects}
 use Rattle.proof_agreement.proofs.StoresFollow.{StoresFollow}

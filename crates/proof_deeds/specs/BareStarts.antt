@@ -1,10 +1,10 @@
 -- A bare start gives up the lead.
 use Rattle.std.specs.Prelude.{ℕ, ◌<◌, ◌≤◌, ◌≡◌, List, ◌∷◌, ◌++◌, IfSome, Some, length}
 use Rattle.std.specs.List.{AllByRecursion}
-use Rattle.raft_store.specs.declared.entry.Entry.{Entry}
-use Rattle.raft_schedule.specs.declared.event.Event.{Event}
-use Rattle.raft_schedule.specs.declared.event.EventKind.TheVariants as event
-use Rattle.raft_schedule.specs.declared.event.Start.TheVariants.{Bare}
+use Rattle.raft_node.specs.raft_store.declared.entry.Entry.{Entry}
+use Rattle.raft_node.specs.raft_schedule.declared.event.Event.{Event}
+use Rattle.raft_node.specs.raft_schedule.declared.event.EventKind.TheVariants as event
+use Rattle.raft_node.specs.raft_schedule.declared.event.Start.TheVariants.{Bare}
 use Rattle.raft_node.specs.declared.act.Act.TheVariants.{Restart}
 use Rattle.raft_node.specs.declared.given.Given.{Given}
 use Rattle.raft_node.specs.Events.{Scene, played}

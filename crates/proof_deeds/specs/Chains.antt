@@ -1,17 +1,17 @@
 -- Chains: the queued commands of a node, each done by deeds when its turn comes.
 use Rattle.std.specs.Prelude.{ℕ, suc, ◌≡◌, ◌≤◌, ◌⊎◌, Bool, true, Contains, List, [], ◌∷◌, IfSome, Some, length}
 use Rattle.std.specs.List.{AllByRecursion}
-use Rattle.raft_state.specs.declared.ids.LeaderId.{LeaderId}
-use Rattle.raft_state.specs.declared.ids.LogId.{LogId}
-use Rattle.raft_command.specs.declared.command.Command.TheVariants as command
+use Rattle.raft_node.specs.raft_state.declared.ids.LeaderId.{LeaderId}
+use Rattle.raft_node.specs.raft_state.declared.ids.LogId.{LogId}
+use Rattle.raft_node.specs.raft_command.declared.command.Command.TheVariants as command
 use Rattle.proof_agreement.specs.Machine.{Setup}
 use Rattle.proof_agreement.specs.Stores.{Stores, empty, last_leader_of}
 use Rattle.proof_agreement.specs.Deeds.{Deed, SaveVote, Win, FollowByAppend, FollowBySnapshot, RequestVotes, AnswerVote, Initialize, LeaderAppend, FollowerAppend, TruncateConflict, TruncateForSnapshot, Purge, BuildStreams, EndStreams, RecordEstablished, SendAppend, SendSnapshot, AcceptAppend, AcceptSnapshot, CommitByQuorum, FollowerCommit, LeaderCommit, Apply, InstallSnapshot, Note, BuildSnapshot, DropNote, ForgetSaved, Restart, RestartSaved, AllMayDo, MayCommitByQuorum, does, run_all}
-use Rattle.raft_store.specs.declared.entry.Entry.{Entry}
-use Rattle.raft_store.specs.Entries.{entry_meaning}
-use Rattle.raft_store.specs.Store as store
-use Rattle.raft_store.specs.Types.{WorldStore, WorldCommand, WorldLeader, EngineView}
-use Rattle.raft_calls.specs.declared.message.Message.{Message}
+use Rattle.raft_node.specs.raft_store.declared.entry.Entry.{Entry}
+use Rattle.raft_node.specs.raft_store.Entries.{entry_meaning}
+use Rattle.raft_node.specs.raft_store.Store as store
+use Rattle.raft_node.specs.raft_store.Types.{WorldStore, WorldCommand, WorldLeader, EngineView}
+use Rattle.raft_node.specs.raft_calls.declared.message.Message.{Message}
 use Rattle.raft_node.specs.declared.node.Turn.{Turn}
 use Rattle.raft_node.specs.Chosen.{Acknowledges}
 use Rattle.raft_node.specs.Execute.{Effects, exec, replies}

@@ -3,28 +3,28 @@
 use Rattle.std.specs.Prelude.{ℕ, ◌≡◌, ◌≢◌, ◌⊎◌, true, List, None, Some}
 use Rattle.std.specs.List.{AllByRecursion}
 use Rattle.std.specs.Ordering.{is_eq, nat_cmp}
-use Rattle.raft_state.specs.declared.ids.Vote.{Vote}
-use Rattle.raft_state.specs.declared.membership.Members.{Members}
-use Rattle.raft_state.specs.Order.{vote_cmp}
-use Rattle.raft_command.specs.declared.config.EngineConfig.{EngineConfig}
-use Rattle.raft_command.specs.declared.message.VoteRequest.{VoteRequest}
-use Rattle.raft_command.specs.declared.message.VoteResponse.{VoteResponse}
-use Rattle.raft_steps.specs.Refusals.{refusals_of_initialize, refusals_of_vote_resp}
-use Rattle.raft_steps.specs.Engine.{as_uncommitted, elect, handle_vote_resp, initialize}
-use Rattle.raft_steps.specs.Parts.{on_core, then_command}
-use Rattle.raft_steps.specs.Requests.{handle_vote_req, vote_req_answer}
-use Rattle.raft_steps.specs.VoteHandler.{update_vote}
+use Rattle.raft_node.specs.raft_state.declared.ids.Vote.{Vote}
+use Rattle.raft_node.specs.raft_state.declared.membership.Members.{Members}
+use Rattle.raft_node.specs.raft_state.Order.{vote_cmp}
+use Rattle.raft_node.specs.raft_command.declared.config.EngineConfig.{EngineConfig}
+use Rattle.raft_node.specs.raft_command.declared.message.VoteRequest.{VoteRequest}
+use Rattle.raft_node.specs.raft_command.declared.message.VoteResponse.{VoteResponse}
+use Rattle.raft_node.specs.raft_steps.Refusals.{refusals_of_initialize, refusals_of_vote_resp}
+use Rattle.raft_node.specs.raft_steps.Engine.{as_uncommitted, elect, handle_vote_resp, initialize}
+use Rattle.raft_node.specs.raft_steps.Parts.{on_core, then_command}
+use Rattle.raft_node.specs.raft_steps.Requests.{handle_vote_req, vote_req_answer}
+use Rattle.raft_node.specs.raft_steps.VoteHandler.{update_vote}
 use Rattle.proof_agreement.specs.Machine.{Includes}
 use Rattle.proof_agreement.specs.Stores.{Append, Session, AppendRequest, SnapshotRequest, VoteGranted}
-use Rattle.raft_store.specs.declared.entry.Entry.{Entry}
-use Rattle.raft_store.specs.Entries.{entry_meaning}
-use Rattle.raft_store.specs.Types.{WorldCandidate, WorldStore, WorldMachine}
-use Rattle.raft_calls.specs.declared.message.Body.TheVariants as body
-use Rattle.raft_calls.specs.declared.message.Message.{Message}
+use Rattle.raft_node.specs.raft_store.declared.entry.Entry.{Entry}
+use Rattle.raft_node.specs.raft_store.Entries.{entry_meaning}
+use Rattle.raft_node.specs.raft_store.Types.{WorldCandidate, WorldStore, WorldMachine}
+use Rattle.raft_node.specs.raft_calls.declared.message.Body.TheVariants as body
+use Rattle.raft_node.specs.raft_calls.declared.message.Message.{Message}
 use Rattle.raft_node.specs.declared.node.Turn.{Turn}
-use Rattle.raft_calls.specs.Deliveries.{vote_reply}
-use Rattle.raft_calls.specs.Elections.{first_entry}
-use Rattle.raft_calls.specs.Feeds.{own_grant}
+use Rattle.raft_node.specs.raft_calls.Deliveries.{vote_reply}
+use Rattle.raft_node.specs.raft_calls.Elections.{first_entry}
+use Rattle.raft_node.specs.raft_calls.Feeds.{own_grant}
 use Rattle.proof_deeds.specs.Chains.{Unread}
 use Rattle.proof_deeds.specs.Follows.{MayBeSaved, VoteTold}
 use Rattle.proof_deeds.specs.Images.{Ideal, IdealEntry, IsNamed, number, setup_of}

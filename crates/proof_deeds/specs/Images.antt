@@ -1,18 +1,18 @@
 -- The world's values as values of `proof_agreement`: the ideal ones.
 use Rattle.std.specs.Prelude.{ℕ, ◌≡◌, ◌<◌, true, false, List, [], ◌∷◌, Option, None, Some, map, length, is_some}
 use Rattle.std.specs.List.{AllByRecursion}
-use Rattle.raft_state.specs.declared.ids.LeaderId.{LeaderId}
-use Rattle.raft_state.specs.declared.ids.LogId.{LogId}
-use Rattle.raft_state.specs.declared.membership.Members.{Members}
+use Rattle.raft_node.specs.raft_state.declared.ids.LeaderId.{LeaderId}
+use Rattle.raft_node.specs.raft_state.declared.ids.LogId.{LogId}
+use Rattle.raft_node.specs.raft_state.declared.membership.Members.{Members}
 use Rattle.proof_agreement.specs.LeaderNumbers.{leader_number, leader_node}
 use Rattle.proof_agreement.specs.Machine.{Setup}
 use Rattle.proof_agreement.specs.Machine as machine
 use Rattle.proof_agreement.specs.Stores as stores
 use Rattle.proof_agreement.specs.Deeds as deeds
-use Rattle.raft_store.specs.declared.entry.Entry.{Entry}
-use Rattle.raft_store.specs.declared.entry.Payload.{Payload}
-use Rattle.raft_store.specs.Entries.{members_of}
-use Rattle.raft_calls.specs.Elections.{first_entry}
+use Rattle.raft_node.specs.raft_store.declared.entry.Entry.{Entry}
+use Rattle.raft_node.specs.raft_store.declared.entry.Payload.{Payload}
+use Rattle.raft_node.specs.raft_store.Entries.{members_of}
+use Rattle.raft_node.specs.raft_calls.Elections.{first_entry}
 
 -- The payload of an ideal entry is the whole entry of the world, so that an entry is known again by its image.
 abbrev pub Ideal : Type 0

@@ -3,20 +3,20 @@
 use Rattle.std.specs.Prelude.{ℕ, ◌≡◌, ◌<◌, ◌⊎◌, true, false, Option, None, Some, IfSome, drop}
 use Rattle.std.specs.List.{AllByRecursion}
 use Rattle.std.specs.Ordering.{nat_cmp}
-use Rattle.raft_state.specs.declared.state.RaftState.{RaftState}
-use Rattle.raft_state.specs.State.{accepted}
-use Rattle.raft_progress_entry.specs.declared.entry.ProgressEntry.{ProgressEntry}
-use Rattle.raft_command.specs.declared.config.EngineConfig.{EngineConfig}
-use Rattle.raft_steps.specs.Invariants.{IsSound}
+use Rattle.raft_node.specs.raft_state.declared.state.RaftState.{RaftState}
+use Rattle.raft_node.specs.raft_state.State.{accepted}
+use Rattle.raft_node.specs.raft_progress_entry.declared.entry.ProgressEntry.{ProgressEntry}
+use Rattle.raft_node.specs.raft_command.declared.config.EngineConfig.{EngineConfig}
+use Rattle.raft_node.specs.raft_steps.Invariants.{IsSound}
 use Rattle.proof_agreement.specs.Machine.{Setup, Includes}
 use Rattle.proof_agreement.specs.Stores.{Append, DecidedCommit, Store, VoteGranted, whole}
 use Rattle.proof_agreement.specs.Deeds.{HasAccepted, MayAccept, Reaches}
-use Rattle.raft_store.specs.declared.entry.Entry.{Entry}
-use Rattle.raft_store.specs.Entries.{entry_meaning}
-use Rattle.raft_store.specs.Types.{WorldStore, WorldMachine, WorldLeader, WorldCandidate}
+use Rattle.raft_node.specs.raft_store.declared.entry.Entry.{Entry}
+use Rattle.raft_node.specs.raft_store.Entries.{entry_meaning}
+use Rattle.raft_node.specs.raft_store.Types.{WorldStore, WorldMachine, WorldLeader, WorldCandidate}
 use Rattle.proof_mirror.specs.Ready.{PendingIn, Ordered}
 use Rattle.raft_node.specs.declared.node.Turn.{Turn}
-use Rattle.raft_calls.specs.declared.message.Message.{Message}
+use Rattle.raft_node.specs.raft_calls.declared.message.Message.{Message}
 use Rattle.proof_deeds.specs.Chains.{Carried, Does, Reached}
 use Rattle.proof_deeds.specs.Follows.{MessageIs}
 use Rattle.proof_deeds.specs.Images.{Ideal, number}

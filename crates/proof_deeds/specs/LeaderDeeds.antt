@@ -3,28 +3,28 @@
 use Rattle.std.specs.Prelude.{ℕ, ◌≡◌, ◌≢◌, Result, Ok, Err, Bool, true, List, [], ◌∷◌, Option, None, Some, IfSome, length}
 use Rattle.std.specs.List.{AllByRecursion}
 use Rattle.std.specs.Ordering.{nat_cmp}
-use Rattle.raft_state.specs.declared.ids.LogId.{LogId}
-use Rattle.raft_state.specs.declared.ids.Vote.{Vote}
-use Rattle.raft_state.specs.declared.membership.Members.{Members}
-use Rattle.raft_state.specs.Fits.{fits}
-use Rattle.raft_command.specs.declared.config.EngineConfig.{EngineConfig}
-use Rattle.raft_command.specs.declared.replication.ReplicationResult.{ReplicationResult}
-use Rattle.raft_command.specs.declared.replication.RequestId.{RequestId}
-use Rattle.raft_steps.specs.Refusals.{refusals_of_propose}
-use Rattle.raft_steps.specs.Conditions.{MayPropose}
-use Rattle.raft_steps.specs.LeaderHandler.{leader_append_entries, read_log_id}
-use Rattle.raft_steps.specs.Parts.{leading, led_of}
-use Rattle.raft_steps.specs.Replies.{update_conflicting, update_matching, update_progress}
-use Rattle.raft_steps.specs.ReplyRefusals.{refusals_of_entry, refusals_of_acknowledged, refusals_of_result}
-use Rattle.raft_steps.specs.ReplicationHandler.{initiate_replication, update_local_progress}
-use Rattle.raft_steps.specs.Starts.{leader_step_down, refusals_of_step_down}
+use Rattle.raft_node.specs.raft_state.declared.ids.LogId.{LogId}
+use Rattle.raft_node.specs.raft_state.declared.ids.Vote.{Vote}
+use Rattle.raft_node.specs.raft_state.declared.membership.Members.{Members}
+use Rattle.raft_node.specs.raft_state.Fits.{fits}
+use Rattle.raft_node.specs.raft_command.declared.config.EngineConfig.{EngineConfig}
+use Rattle.raft_node.specs.raft_command.declared.replication.ReplicationResult.{ReplicationResult}
+use Rattle.raft_node.specs.raft_command.declared.replication.RequestId.{RequestId}
+use Rattle.raft_node.specs.raft_steps.Refusals.{refusals_of_propose}
+use Rattle.raft_node.specs.raft_steps.Conditions.{MayPropose}
+use Rattle.raft_node.specs.raft_steps.LeaderHandler.{leader_append_entries, read_log_id}
+use Rattle.raft_node.specs.raft_steps.Parts.{leading, led_of}
+use Rattle.raft_node.specs.raft_steps.Replies.{update_conflicting, update_matching, update_progress}
+use Rattle.raft_node.specs.raft_steps.ReplyRefusals.{refusals_of_entry, refusals_of_acknowledged, refusals_of_result}
+use Rattle.raft_node.specs.raft_steps.ReplicationHandler.{initiate_replication, update_local_progress}
+use Rattle.raft_node.specs.raft_steps.Starts.{leader_step_down, refusals_of_step_down}
 use Rattle.proof_agreement.specs.Deeds.{HasAccepted}
 use Rattle.proof_agreement.specs.Machine.{Setup}
-use Rattle.raft_store.specs.declared.entry.Entry.{Entry}
-use Rattle.raft_store.specs.Entries.{entry_meaning, members_of}
-use Rattle.raft_store.specs.Types.{WorldStore, WorldMachine, WorldLeader}
+use Rattle.raft_node.specs.raft_store.declared.entry.Entry.{Entry}
+use Rattle.raft_node.specs.raft_store.Entries.{entry_meaning, members_of}
+use Rattle.raft_node.specs.raft_store.Types.{WorldStore, WorldMachine, WorldLeader}
 use Rattle.raft_node.specs.declared.node.Turn.{Turn}
-use Rattle.raft_calls.specs.Feeds.{WorldLed}
+use Rattle.raft_node.specs.raft_calls.Feeds.{WorldLed}
 use Rattle.proof_deeds.specs.Chains.{Carried}
 use Rattle.proof_deeds.specs.Images.{Ideal, number, setup_of}
 use Rattle.proof_deeds.specs.Knows.{CarriedIn, Stands, StaysAbove}

@@ -1,3 +1,16 @@
+pub use Rattle.raft_node.specs.raft_state
+pub use Rattle.raft_node.specs.raft_error
+pub use Rattle.raft_node.specs.raft_progress_entry
+pub use Rattle.raft_node.specs.raft_progress
+pub use Rattle.raft_node.specs.raft_command
+pub use Rattle.raft_node.specs.raft_proposer
+pub use Rattle.raft_node.specs.raft_steps
+pub use Rattle.raft_node.specs.raft_store
+pub use Rattle.raft_node.specs.raft_schedule
+pub use Rattle.raft_node.specs.raft_calls
+pub mod raft_node
+pub mod proof_mirror
+pub mod proof_agreement
 pub mod BareStarts
 pub mod Chains
 pub mod ElectionDeeds

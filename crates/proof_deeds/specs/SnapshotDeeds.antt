@@ -3,25 +3,25 @@
 use Rattle.std.specs.Prelude.{ℕ, ◌≡◌, ◌≢◌, ◌<◌, Bool, false, List, [], None}
 use Rattle.std.specs.List.{AllByRecursion}
 use Rattle.std.specs.Ordering.{nat_cmp}
-use Rattle.raft_state.specs.declared.membership.Members.{Members}
-use Rattle.raft_command.specs.declared.config.EngineConfig.{EngineConfig}
-use Rattle.raft_command.specs.declared.message.Token.{Token}
-use Rattle.raft_steps.specs.Refusals.{blank_is_at_end}
-use Rattle.raft_steps.specs.InstallRefusals.{refusals_of_install}
-use Rattle.raft_steps.specs.Installs.{handle_install_full_snapshot}
-use Rattle.raft_steps.specs.Parts.{idle, on_core}
-use Rattle.raft_steps.specs.SnapshotCalls.{finish_building_snapshot, handle_begin_receiving_snapshot, trigger_purge_log}
-use Rattle.raft_steps.specs.SnapshotHandler.{trigger_snapshot}
-use Rattle.raft_steps.specs.Starts.{startup}
-use Rattle.raft_store.specs.declared.entry.Entry.{Entry}
-use Rattle.raft_store.specs.Built.{keep_snapshot, meta_of}
-use Rattle.raft_store.specs.Entries.{entry_meaning}
-use Rattle.raft_store.specs.Types.{WorldMachine, WorldSnapshot, WorldStore}
+use Rattle.raft_node.specs.raft_state.declared.membership.Members.{Members}
+use Rattle.raft_node.specs.raft_command.declared.config.EngineConfig.{EngineConfig}
+use Rattle.raft_node.specs.raft_command.declared.message.Token.{Token}
+use Rattle.raft_node.specs.raft_steps.Refusals.{blank_is_at_end}
+use Rattle.raft_node.specs.raft_steps.InstallRefusals.{refusals_of_install}
+use Rattle.raft_node.specs.raft_steps.Installs.{handle_install_full_snapshot}
+use Rattle.raft_node.specs.raft_steps.Parts.{idle, on_core}
+use Rattle.raft_node.specs.raft_steps.SnapshotCalls.{finish_building_snapshot, handle_begin_receiving_snapshot, trigger_purge_log}
+use Rattle.raft_node.specs.raft_steps.SnapshotHandler.{trigger_snapshot}
+use Rattle.raft_node.specs.raft_steps.Starts.{startup}
+use Rattle.raft_node.specs.raft_store.declared.entry.Entry.{Entry}
+use Rattle.raft_node.specs.raft_store.Built.{keep_snapshot, meta_of}
+use Rattle.raft_node.specs.raft_store.Entries.{entry_meaning}
+use Rattle.raft_node.specs.raft_store.Types.{WorldMachine, WorldSnapshot, WorldStore}
 use Rattle.proof_mirror.specs.Ready.{Ordered, Shaped}
-use Rattle.raft_store.specs.Restart.{restarted, started}
-use Rattle.raft_calls.specs.declared.message.Body.TheVariants as body
-use Rattle.raft_calls.specs.declared.message.Message.{Message}
-use Rattle.raft_calls.specs.declared.message.Origin.{Origin}
+use Rattle.raft_node.specs.raft_store.Restart.{restarted, started}
+use Rattle.raft_node.specs.raft_calls.declared.message.Body.TheVariants as body
+use Rattle.raft_node.specs.raft_calls.declared.message.Message.{Message}
+use Rattle.raft_node.specs.raft_calls.declared.message.Origin.{Origin}
 use Rattle.raft_node.specs.declared.node.Turn.{Turn}
 use Rattle.proof_deeds.specs.Chains.{Does, IsQuiet, Reached, Unread}
 use Rattle.proof_deeds.specs.Follows.{StoreIs}

@@ -1,20 +1,20 @@
 -- No leader's request of a run is refused because it doesn't fit what its node has (refusals 11 to 16).
 use Rattle.std.specs.Prelude.{ℕ, ◌≡◌, false, All, Contains, IfSome, List, None, Option, Some, map}
 use Rattle.std.specs.Ordering.{nat_cmp}
-use Rattle.raft_state.specs.declared.ids.LogId.{LogId}
-use Rattle.raft_state.specs.LogLaws.{IsRun}
-use Rattle.raft_error.specs.Number.{number_of}
-use Rattle.raft_steps.specs.InstallRefusals.{refusals_of_install}
-use Rattle.raft_steps.specs.RequestRefusals.{refusals_of_append}
-use Rattle.raft_steps.specs.VoteHandler.{rejects_vote, update_vote}
-use Rattle.raft_store.specs.declared.entry.Entry.{Entry}
-use Rattle.raft_store.specs.Entries.{entry_meaning}
-use Rattle.raft_store.specs.Mirror.{Tells}
-use Rattle.raft_store.specs.Types.{WorldSnapshot, EngineView}
+use Rattle.raft_node.specs.raft_state.declared.ids.LogId.{LogId}
+use Rattle.raft_node.specs.raft_state.LogLaws.{IsRun}
+use Rattle.raft_node.specs.raft_error.Number.{number_of}
+use Rattle.raft_node.specs.raft_steps.InstallRefusals.{refusals_of_install}
+use Rattle.raft_node.specs.raft_steps.RequestRefusals.{refusals_of_append}
+use Rattle.raft_node.specs.raft_steps.VoteHandler.{rejects_vote, update_vote}
+use Rattle.raft_node.specs.raft_store.declared.entry.Entry.{Entry}
+use Rattle.raft_node.specs.raft_store.Entries.{entry_meaning}
+use Rattle.raft_node.specs.raft_store.Mirror.{Tells}
+use Rattle.raft_node.specs.raft_store.Types.{WorldSnapshot, EngineView}
 use Rattle.proof_mirror.specs.Ready.{AppendFits}
-use Rattle.raft_calls.specs.declared.message.Body.TheVariants as body
-use Rattle.raft_calls.specs.declared.message.Message.{Message}
-use Rattle.raft_calls.specs.declared.message.Origin.{Origin}
+use Rattle.raft_node.specs.raft_calls.declared.message.Body.TheVariants as body
+use Rattle.raft_node.specs.raft_calls.declared.message.Message.{Message}
+use Rattle.raft_node.specs.raft_calls.declared.message.Origin.{Origin}
 use Rattle.raft_node.specs.Net.{Net, NodeView}
 use Rattle.raft_node.specs.Runs.{run, start, whole_logs, world_after}
 use Rattle.raft_node.specs.Safety.{IsOtherRefusal, IsUnrefused}

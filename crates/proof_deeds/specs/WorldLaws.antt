@@ -1,6 +1,6 @@
 -- What each run of a world promises, whatever its voters, whatever its events, and at each moment of it.
 use Rattle.std.specs.Prelude.{List}
-use Rattle.raft_schedule.specs.declared.event.Event.{Event}
+use Rattle.raft_node.specs.raft_schedule.declared.event.Event.{Event}
 use Rattle.raft_node.specs.declared.given.Given.{Given}
 use Rattle.raft_node.specs.Chosen.{DecidedAreChosen, KeepsChosen}
 use Rattle.raft_node.specs.Held.{AllResting}

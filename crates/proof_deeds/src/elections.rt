@@ -1,7 +1,7 @@
 //! Theorems of elections and deeds, on a function that does nothing.
 
 ghost use Rattle.std.specs.Prelude.{ℕ};
-ghost use Rattle.raft_state.specs.declared.membership.Members.{Members};
+ghost use Rattle.raft_node.specs.raft_state.declared.membership.Members.{Members};
 ghost use Rattle.proof_deeds.specs.ElectionDeeds.{ElectionsDone};
 
 /// What an engine queues in an election is done by allowed deeds of its node, command by command, wherever it stops,

@@ -1,3 +1,4 @@
+pub mod proof_servers
 pub mod Batches
 pub mod BatchLaws
 pub mod Logs

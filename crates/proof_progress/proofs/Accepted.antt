@@ -6,32 +6,32 @@ use Rattle.std.specs.Cmp.{tied_itself}
 use Rattle.std.specs.Ordering.{is_eq, is_le, nat_cmp}
 use Rattle.std.proofs.lemmas.Bool.Decides.{nat_tests}
 use Rattle.std.proofs.lemmas.Cmp.{nat_cmp_total}
-use Rattle.raft_state.specs.declared.ids.LogId.{LogId}
-use Rattle.raft_state.specs.Fits.{fits, is_below, is_within}
-use Rattle.raft_state.specs.Log.{at, last}
-use Rattle.raft_state.specs.Invariants.{first_index}
-use Rattle.raft_state.specs.Order.{last_id_cmp, next}
-use Rattle.raft_state.specs.Same.{found_is, nat_same}
-use Rattle.raft_state.specs.State.{is_found}
-use Rattle.raft_state.proofs.LogLists.{at_has, has_lt}
-use Rattle.raft_state.proofs.Orders.{and_both, last_total, le_refl, lt_is_le, nat_lt_is, or_cases, or_left, within_next, within_of, within_refl}
-use Rattle.raft_state.proofs.StateLaws.{is_found_at}
-use Rattle.raft_progress_entry.specs.declared.entry.Inflight.{Inflight}
-use Rattle.raft_progress_entry.specs.declared.entry.Inflight.TheVariants as inflight
-use Rattle.raft_progress_entry.specs.declared.entry.LogIdRange.{LogIdRange}
-use Rattle.raft_progress_entry.specs.declared.entry.ProgressEntry.{ProgressEntry}
-use Rattle.raft_error.specs.declared.error.EngineError.{EngineError}
-use Rattle.raft_error.specs.declared.error.EngineError.TheVariants.{CounterEnd, ForeignInflight, LogReverted, OutsideInflight, Spent, UnknownTarget}
-use Rattle.raft_progress_entry.specs.Entry.{acknowledges, before, begins_at, carries, is_my_id, next_send, send_end, send_start, sent}
-use Rattle.raft_error.specs.Number.{first_refusal}
-use Rattle.raft_progress.specs.Table.{get}
-use Rattle.raft_command.specs.declared.config.EngineConfig.{EngineConfig}
-use Rattle.raft_command.specs.declared.replication.ReplicationResult.{ReplicationResult}
-use Rattle.raft_command.specs.declared.replication.RequestId.TheVariants as request
-use Rattle.raft_steps.specs.Invariants.{EntryFits, IsSoundLed, inflight_from}
-use Rattle.raft_steps.specs.Refusals.{is_counter_end_among}
-use Rattle.raft_steps.specs.ReplyRefusals.{refusals_of_acknowledged, refusals_of_progress, refusals_of_result}
-use Rattle.raft_calls.specs.Feeds.{WorldLed}
+use Rattle.proof_deeds.specs.raft_state.declared.ids.LogId.{LogId}
+use Rattle.proof_deeds.specs.raft_state.Fits.{fits, is_below, is_within}
+use Rattle.proof_deeds.specs.raft_state.Log.{at, last}
+use Rattle.proof_deeds.specs.raft_state.Invariants.{first_index}
+use Rattle.proof_deeds.specs.raft_state.Order.{last_id_cmp, next}
+use Rattle.proof_deeds.specs.raft_state.Same.{found_is, nat_same}
+use Rattle.proof_deeds.specs.raft_state.State.{is_found}
+use Rattle.proof_deeds.proofs.raft_state_proofs.LogLists.{at_has, has_lt}
+use Rattle.proof_deeds.proofs.raft_state_proofs.Orders.{and_both, last_total, le_refl, lt_is_le, nat_lt_is, or_cases, or_left, within_next, within_of, within_refl}
+use Rattle.proof_deeds.proofs.raft_state_proofs.StateLaws.{is_found_at}
+use Rattle.proof_deeds.specs.raft_progress_entry.declared.entry.Inflight.{Inflight}
+use Rattle.proof_deeds.specs.raft_progress_entry.declared.entry.Inflight.TheVariants as inflight
+use Rattle.proof_deeds.specs.raft_progress_entry.declared.entry.LogIdRange.{LogIdRange}
+use Rattle.proof_deeds.specs.raft_progress_entry.declared.entry.ProgressEntry.{ProgressEntry}
+use Rattle.proof_deeds.specs.raft_error.declared.error.EngineError.{EngineError}
+use Rattle.proof_deeds.specs.raft_error.declared.error.EngineError.TheVariants.{CounterEnd, ForeignInflight, LogReverted, OutsideInflight, Spent, UnknownTarget}
+use Rattle.proof_deeds.specs.raft_progress_entry.Entry.{acknowledges, before, begins_at, carries, is_my_id, next_send, send_end, send_start, sent}
+use Rattle.proof_deeds.specs.raft_error.Number.{first_refusal}
+use Rattle.proof_deeds.specs.raft_progress.Table.{get}
+use Rattle.proof_deeds.specs.raft_command.declared.config.EngineConfig.{EngineConfig}
+use Rattle.proof_deeds.specs.raft_command.declared.replication.ReplicationResult.{ReplicationResult}
+use Rattle.proof_deeds.specs.raft_command.declared.replication.RequestId.TheVariants as request
+use Rattle.proof_deeds.specs.raft_steps.Invariants.{EntryFits, IsSoundLed, inflight_from}
+use Rattle.proof_deeds.specs.raft_steps.Refusals.{is_counter_end_among}
+use Rattle.proof_deeds.specs.raft_steps.ReplyRefusals.{refusals_of_acknowledged, refusals_of_progress, refusals_of_result}
+use Rattle.proof_deeds.specs.raft_calls.Feeds.{WorldLed}
 use Rattle.proof_progress.proofs.Carried.{IsRange, before_at, range_sent}
 use Rattle.proof_progress.proofs.Nearing.{IsSent, IsServed, past_purge, serves}
 use Rattle.proof_progress.proofs.Rounds.{fits_of, sent_matching}

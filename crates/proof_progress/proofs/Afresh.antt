@@ -5,37 +5,37 @@ use Rattle.std.specs.List.{AllByRecursion}
 use Rattle.std.specs.Option.{option_to_list}
 use Rattle.std.specs.Ordering.{is_eq, is_ge, nat_cmp}
 use Rattle.std.proofs.lemmas.Bool.Decides.{nat_tests}
-use Rattle.raft_state.specs.declared.ids.LeaderId.{LeaderId}
-use Rattle.raft_state.specs.declared.ids.LogId.{LogId}
-use Rattle.raft_state.specs.declared.ids.Vote.{Vote}
-use Rattle.raft_state.specs.declared.membership.StoredMembership.{StoredMembership}
-use Rattle.raft_state.specs.declared.state.ServerState.TheVariants.{Leader}
-use Rattle.raft_state.specs.Log.{last}
-use Rattle.raft_state.specs.Members.{learner_ids, voter_ids}
-use Rattle.raft_state.specs.Order.{last_id_cmp, next, vote_cmp}
-use Rattle.raft_state.proofs.LogLists.{each_append}
-use Rattle.raft_progress.specs.Table.{get, is_row_of, row_ids, row_of, rows_of, with_value}
-use Rattle.raft_progress_entry.specs.declared.entry.Inflight.{Inflight}
-use Rattle.raft_progress_entry.specs.declared.entry.ProgressEntry.{ProgressEntry}
-use Rattle.raft_progress_entry.specs.Entry.{empty, next_send, sent, silenced}
-use Rattle.raft_error.specs.declared.error.EngineError.{EngineError}
-use Rattle.raft_command.specs.declared.command.Command.TheVariants.{AppendInputEntries, BecomeLeader, RebuildReplicationStreams, SaveVote}
-use Rattle.raft_command.specs.declared.config.EngineConfig.{EngineConfig}
-use Rattle.raft_proposer.specs.Candidate.{as_committed}
-use Rattle.raft_steps.specs.LeaderHandler.{leader_append_entries, proposed}
-use Rattle.raft_steps.specs.Parts.{led_of, leading}
-use Rattle.raft_steps.specs.Refusals.{refusals_of_local_progress}
-use Rattle.raft_steps.specs.ReplicationHandler.{commit_granted, initiate_replication, is_other, own_matched, rebuild_replication_streams, sends_of, sent_row, silenced_row, update_local_progress, with_entry}
-use Rattle.raft_steps.proofs.Kept.{either}
-use Rattle.raft_store.specs.declared.entry.Entry.{Entry}
-use Rattle.raft_store.specs.Types.{EngineView, WorldCandidate, WorldCommand, WorldLeader, WorldMachine}
-use Rattle.raft_calls.specs.Feeds.{WorldLed, called, feed, hold_own, last_sent}
-use Rattle.raft_node.specs.declared.node.Turn.{Turn}
-use Rattle.raft_node.specs.Execute.{exec}
-use Rattle.raft_node.specs.Runs.{whole_logs}
-use Rattle.raft_node.specs.Work.{Work, weight, work_step, worked}
-use Rattle.raft_node.proofs.Worked.{worked-step}
-use Rattle.raft_node.specs.Net.{Net}
+use Rattle.proof_deeds.specs.raft_state.declared.ids.LeaderId.{LeaderId}
+use Rattle.proof_deeds.specs.raft_state.declared.ids.LogId.{LogId}
+use Rattle.proof_deeds.specs.raft_state.declared.ids.Vote.{Vote}
+use Rattle.proof_deeds.specs.raft_state.declared.membership.StoredMembership.{StoredMembership}
+use Rattle.proof_deeds.specs.raft_state.declared.state.ServerState.TheVariants.{Leader}
+use Rattle.proof_deeds.specs.raft_state.Log.{last}
+use Rattle.proof_deeds.specs.raft_state.Members.{learner_ids, voter_ids}
+use Rattle.proof_deeds.specs.raft_state.Order.{last_id_cmp, next, vote_cmp}
+use Rattle.proof_deeds.proofs.raft_state_proofs.LogLists.{each_append}
+use Rattle.proof_deeds.specs.raft_progress.Table.{get, is_row_of, row_ids, row_of, rows_of, with_value}
+use Rattle.proof_deeds.specs.raft_progress_entry.declared.entry.Inflight.{Inflight}
+use Rattle.proof_deeds.specs.raft_progress_entry.declared.entry.ProgressEntry.{ProgressEntry}
+use Rattle.proof_deeds.specs.raft_progress_entry.Entry.{empty, next_send, sent, silenced}
+use Rattle.proof_deeds.specs.raft_error.declared.error.EngineError.{EngineError}
+use Rattle.proof_deeds.specs.raft_command.declared.command.Command.TheVariants.{AppendInputEntries, BecomeLeader, RebuildReplicationStreams, SaveVote}
+use Rattle.proof_deeds.specs.raft_command.declared.config.EngineConfig.{EngineConfig}
+use Rattle.proof_deeds.specs.raft_proposer.Candidate.{as_committed}
+use Rattle.proof_deeds.specs.raft_steps.LeaderHandler.{leader_append_entries, proposed}
+use Rattle.proof_deeds.specs.raft_steps.Parts.{led_of, leading}
+use Rattle.proof_deeds.specs.raft_steps.Refusals.{refusals_of_local_progress}
+use Rattle.proof_deeds.specs.raft_steps.ReplicationHandler.{commit_granted, initiate_replication, is_other, own_matched, rebuild_replication_streams, sends_of, sent_row, silenced_row, update_local_progress, with_entry}
+use Rattle.proof_deeds.proofs.raft_steps_proofs.Kept.{either}
+use Rattle.proof_deeds.specs.raft_store.declared.entry.Entry.{Entry}
+use Rattle.proof_deeds.specs.raft_store.Types.{EngineView, WorldCandidate, WorldCommand, WorldLeader, WorldMachine}
+use Rattle.proof_deeds.specs.raft_calls.Feeds.{WorldLed, called, feed, hold_own, last_sent}
+use Rattle.proof_deeds.specs.raft_node.declared.node.Turn.{Turn}
+use Rattle.proof_deeds.specs.raft_node.Execute.{exec}
+use Rattle.proof_deeds.specs.raft_node.Runs.{whole_logs}
+use Rattle.proof_deeds.specs.raft_node.Work.{Work, weight, work_step, worked}
+use Rattle.proof_deeds.proofs.raft_node_proofs.Worked.{worked-step}
+use Rattle.proof_deeds.specs.raft_node.Net.{Net}
 use Rattle.proof_progress.specs.Continuations.{LeadsIn}
 use Rattle.proof_progress.specs.Elections.{Listed}
 use Rattle.proof_progress.specs.Exchanges.{LeadsAt}

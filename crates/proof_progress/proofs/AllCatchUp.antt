@@ -4,20 +4,20 @@ use Rattle.std.specs.List.{AllByRecursion}
 use Rattle.std.specs.Ordering.{nat_cmp}
 use Rattle.std.proofs.Math.Nat.{suc-mul}
 use Rattle.std.proofs.lemmas.Cmp.{nat_cmp_total}
-use Rattle.raft_state.specs.declared.ids.LogId.{LogId}
-use Rattle.raft_state.specs.declared.ids.Vote.{Vote}
-use Rattle.raft_state.specs.Log.{last}
-use Rattle.raft_state.specs.Order.{next}
-use Rattle.raft_state.specs.Same.{nat_same}
-use Rattle.raft_command.specs.declared.config.EngineConfig.{EngineConfig}
-use Rattle.raft_steps.specs.VoteHandler.{rejects_vote}
-use Rattle.raft_steps.proofs.LawsQueue.{append_append, append_none}
-use Rattle.raft_store.specs.declared.entry.Entry.{Entry}
-use Rattle.raft_schedule.specs.declared.event.Event.{Event}
-use Rattle.raft_node.specs.declared.given.Given.{Given}
-use Rattle.raft_node.specs.Net.{Net}
-use Rattle.raft_node.specs.Runs.{world_after}
-use Rattle.raft_node.specs.WellFormed.{IsWellFormed}
+use Rattle.proof_deeds.specs.raft_state.declared.ids.LogId.{LogId}
+use Rattle.proof_deeds.specs.raft_state.declared.ids.Vote.{Vote}
+use Rattle.proof_deeds.specs.raft_state.Log.{last}
+use Rattle.proof_deeds.specs.raft_state.Order.{next}
+use Rattle.proof_deeds.specs.raft_state.Same.{nat_same}
+use Rattle.proof_deeds.specs.raft_command.declared.config.EngineConfig.{EngineConfig}
+use Rattle.proof_deeds.specs.raft_steps.VoteHandler.{rejects_vote}
+use Rattle.proof_deeds.proofs.raft_steps_proofs.LawsQueue.{append_append, append_none}
+use Rattle.proof_deeds.specs.raft_store.declared.entry.Entry.{Entry}
+use Rattle.proof_deeds.specs.raft_schedule.declared.event.Event.{Event}
+use Rattle.proof_deeds.specs.raft_node.declared.given.Given.{Given}
+use Rattle.proof_deeds.specs.raft_node.Net.{Net}
+use Rattle.proof_deeds.specs.raft_node.Runs.{world_after}
+use Rattle.proof_deeds.specs.raft_node.WellFormed.{IsWellFormed}
 use Rattle.proof_progress.specs.CatchUps.{AllMatchAfter, HasCaughtUp, CanServe, MatchesAfter, MayCatchUp, WorldsAllMatch, log_len}
 use Rattle.proof_progress.specs.Continuations.{At}
 use Rattle.proof_progress.specs.Exchanges.{HasNumbers, LeadsAt, MayTake, led}
@@ -29,7 +29,7 @@ use Rattle.proof_progress.proofs.Planned.{planned_then}
 use Rattle.proof_progress.proofs.Proposed.{Kept, after_kept, differs, kept_then, rounds_keep}
 use Rattle.proof_progress.proofs.Rounds.{After, failed_after, still_low}
 use Rattle.proof_progress.proofs.WorksOff.{left_itself, left_then}
-use Rattle.raft_progress_entry.specs.Entry.{silenced}
+use Rattle.proof_deeds.specs.raft_progress_entry.Entry.{silenced}
 
 -- what one of them changes at the leader
 module _ (given : Given) (wf : IsWellFormed given) (past : List Event) (now n t j : ℕ) (l : LeadsAt (world_after given past) now n) (keeps : CanServe l) (k : ℕ) (may : MayCatchUp l j t) (all : List Event) (m : MatchesAfter given past now n t k l all) where

@@ -3,40 +3,40 @@ use Rattle.std.proofs.Common.{ℕ, suc, ◌≡◌, Bool, true, false, List, [], 
 use Rattle.std.specs.Prelude.{if◌then◌else◌, is_some, nat_eq, slice_get, ◌==◌}
 use Rattle.std.specs.Ordering.{is_eq, nat_cmp}
 use Rattle.std.proofs.lemmas.Bool.Decides.{nat_tests}
-use Rattle.raft_state.specs.declared.ids.Vote.{Vote}
-use Rattle.raft_state.specs.Members.{is_voter, voter_ids, learner_ids}
-use Rattle.raft_state.specs.Order.{vote_cmp, next}
-use Rattle.raft_progress.specs.Table.{is_in}
-use Rattle.raft_progress_entry.specs.declared.entry.ProgressEntry.{ProgressEntry}
-use Rattle.raft_error.specs.declared.error.EngineError.{EngineError}
-use Rattle.raft_command.specs.declared.command.Command.TheVariants.{BecomeLeader, RebuildReplicationStreams, SaveVote, SendVote, AppendInputEntries}
-use Rattle.raft_command.specs.declared.message.VoteRequest.{VoteRequest}
-use Rattle.raft_proposer.specs.Candidate.{grant_by}
-use Rattle.raft_steps.specs.Engine.{handle_vote_resp, lead_by_votes}
-use Rattle.raft_store.specs.declared.entry.Entry.{Entry}
-use Rattle.raft_store.specs.Entries.{entry_meaning}
-use Rattle.raft_store.specs.Types.{EngineView, WorldCandidate, WorldCommand, WorldLeader, WorldMachine}
-use Rattle.raft_schedule.specs.declared.event.SkipReason.{SkipReason}
-use Rattle.raft_schedule.specs.declared.event.SkipReason.TheVariants.{HasLeader, NotRunning, NotVoter}
-use Rattle.raft_node.specs.declared.act.Act.TheVariants.{Elect}
-use Rattle.raft_calls.specs.declared.elections.Candidates.TheVariants.{Voters}
-use Rattle.raft_node.specs.declared.given.Given.{Given}
-use Rattle.raft_node.specs.declared.node.Turn.{Turn}
-use Rattle.raft_calls.specs.Elections.{elected, skip_elect}
-use Rattle.raft_node.specs.Events.{happens}
-use Rattle.raft_calls.specs.Feeds.{asks_itself, called, feed, grant_own, own_grant}
-use Rattle.raft_node.specs.Net.{Net, Records, NodeView}
-use Rattle.raft_node.specs.Runs.{whole_logs}
-use Rattle.raft_node.specs.Work.{Work, weight, work_step, worked}
-use Rattle.raft_calls.specs.Engines.{with_queue}
-use Rattle.raft_node.proofs.Worked.{worked-step}
+use Rattle.proof_deeds.specs.raft_state.declared.ids.Vote.{Vote}
+use Rattle.proof_deeds.specs.raft_state.Members.{is_voter, voter_ids, learner_ids}
+use Rattle.proof_deeds.specs.raft_state.Order.{vote_cmp, next}
+use Rattle.proof_deeds.specs.raft_progress.Table.{is_in}
+use Rattle.proof_deeds.specs.raft_progress_entry.declared.entry.ProgressEntry.{ProgressEntry}
+use Rattle.proof_deeds.specs.raft_error.declared.error.EngineError.{EngineError}
+use Rattle.proof_deeds.specs.raft_command.declared.command.Command.TheVariants.{BecomeLeader, RebuildReplicationStreams, SaveVote, SendVote, AppendInputEntries}
+use Rattle.proof_deeds.specs.raft_command.declared.message.VoteRequest.{VoteRequest}
+use Rattle.proof_deeds.specs.raft_proposer.Candidate.{grant_by}
+use Rattle.proof_deeds.specs.raft_steps.Engine.{handle_vote_resp, lead_by_votes}
+use Rattle.proof_deeds.specs.raft_store.declared.entry.Entry.{Entry}
+use Rattle.proof_deeds.specs.raft_store.Entries.{entry_meaning}
+use Rattle.proof_deeds.specs.raft_store.Types.{EngineView, WorldCandidate, WorldCommand, WorldLeader, WorldMachine}
+use Rattle.proof_deeds.specs.raft_schedule.declared.event.SkipReason.{SkipReason}
+use Rattle.proof_deeds.specs.raft_schedule.declared.event.SkipReason.TheVariants.{HasLeader, NotRunning, NotVoter}
+use Rattle.proof_deeds.specs.raft_node.declared.act.Act.TheVariants.{Elect}
+use Rattle.proof_deeds.specs.raft_calls.declared.elections.Candidates.TheVariants.{Voters}
+use Rattle.proof_deeds.specs.raft_node.declared.given.Given.{Given}
+use Rattle.proof_deeds.specs.raft_node.declared.node.Turn.{Turn}
+use Rattle.proof_deeds.specs.raft_calls.Elections.{elected, skip_elect}
+use Rattle.proof_deeds.specs.raft_node.Events.{happens}
+use Rattle.proof_deeds.specs.raft_calls.Feeds.{asks_itself, called, feed, grant_own, own_grant}
+use Rattle.proof_deeds.specs.raft_node.Net.{Net, Records, NodeView}
+use Rattle.proof_deeds.specs.raft_node.Runs.{whole_logs}
+use Rattle.proof_deeds.specs.raft_node.Work.{Work, weight, work_step, worked}
+use Rattle.proof_deeds.specs.raft_calls.Engines.{with_queue}
+use Rattle.proof_deeds.proofs.raft_node_proofs.Worked.{worked-step}
 use Rattle.std.specs.Option.{option_map}
-use Rattle.raft_state.specs.declared.membership.StoredMembership.{StoredMembership}
-use Rattle.raft_state.specs.Log.{last}
-use Rattle.raft_command.specs.declared.replication.ReplicationSessionId.{ReplicationSessionId}
-use Rattle.raft_proposer.specs.Joint.{u64_max}
-use Rattle.raft_node.specs.declared.node.Streams.{Streams}
-use Rattle.raft_node.specs.Execute.{exec}
+use Rattle.proof_deeds.specs.raft_state.declared.membership.StoredMembership.{StoredMembership}
+use Rattle.proof_deeds.specs.raft_state.Log.{last}
+use Rattle.proof_deeds.specs.raft_command.declared.replication.ReplicationSessionId.{ReplicationSessionId}
+use Rattle.proof_deeds.specs.raft_proposer.Joint.{u64_max}
+use Rattle.proof_deeds.specs.raft_node.declared.node.Streams.{Streams}
+use Rattle.proof_deeds.specs.raft_node.Execute.{exec}
 use Rattle.proof_progress.specs.Elections.{Listed}
 use Rattle.proof_progress.proofs.Afresh.{LeadsSince, WonAfresh, elected_works, leads_in, won_afresh}
 use Rattle.proof_progress.specs.Continuations.{LeadsIn, timeout, At}

@@ -6,33 +6,33 @@ use Rattle.std.specs.Cmp.{IsTotalOrder, tied_itself}
 use Rattle.std.specs.declared.cmp.Ordering.{Ordering}
 use Rattle.std.specs.declared.cmp.Ordering.TheVariants.{Equal}
 use Rattle.std.specs.Ordering.{is_eq, is_gt, is_le, is_lt}
-use Rattle.raft_state.specs.declared.config.RaftEntry
-use Rattle.raft_state.specs.declared.ids.LeaderId.{LeaderId}
-use Rattle.raft_state.specs.declared.ids.LogId.{LogId}
-use Rattle.raft_state.specs.declared.ids.Vote.{Vote}
-use Rattle.raft_state.specs.declared.membership.StoredMembership.{StoredMembership}
-use Rattle.raft_state.specs.declared.policy.RejectAppendEntries.{RejectAppendEntries}
-use Rattle.raft_state.specs.declared.policy.RejectAppendEntries.TheVariants as reject
-use Rattle.raft_state.specs.declared.state.RaftState.{RaftState}
-use Rattle.raft_state.specs.Log.{at, last}
-use Rattle.raft_state.specs.Order.{last_id_cmp, leader_id_cmp}
-use Rattle.raft_state.specs.State.{accept, accepted, accepted_under, append_membership, extend, has_log_id, truncate, undoes_membership}
-use Rattle.raft_state.proofs.Orders.{last_total, le_of_not_gt, le_refl, le_trans, leader_total, lt_is_le, lt_of_gt}
-use Rattle.raft_command.specs.Message.{append_response}
-use Rattle.raft_command.specs.Push.{with_command}
-use Rattle.raft_command.specs.declared.command.Command.TheVariants.{DeleteConflictLog}
-use Rattle.raft_command.specs.declared.config.EngineConfig.{EngineConfig}
-use Rattle.raft_command.specs.declared.message.AppendEntriesResponse.{AppendEntriesResponse}
-use Rattle.raft_command.specs.declared.message.AppendEntriesResponse.TheVariants.{Conflict, Success}
-use Rattle.raft_steps.specs.Commit.{commit_by}
-use Rattle.raft_steps.specs.FollowingHandler.{commit_entries, commit_target, consecutive_answer, do_append_entries, ensure_log_consecutive, holds_previous, memberships_in, new_entries, truncate_for, truncate_logs, with_entries}
-use Rattle.raft_steps.specs.FollowingHandler as following
-use Rattle.raft_steps.specs.Laws.{later}
-use Rattle.raft_steps.specs.Parts.{Core, Machine, on_core, with_state}
-use Rattle.raft_steps.specs.Requests.{append_answer, append_entries, follow, handle_commit_entries}
-use Rattle.raft_steps.specs.ServerStateHandler.{update_role}
-use Rattle.raft_steps.specs.VoteHandler.{rejects_vote, update_vote}
-use Rattle.raft_steps.proofs.Kept.{commit_by_case, either, either_option}
+use Rattle.proof_deeds.specs.raft_state.declared.config.RaftEntry
+use Rattle.proof_deeds.specs.raft_state.declared.ids.LeaderId.{LeaderId}
+use Rattle.proof_deeds.specs.raft_state.declared.ids.LogId.{LogId}
+use Rattle.proof_deeds.specs.raft_state.declared.ids.Vote.{Vote}
+use Rattle.proof_deeds.specs.raft_state.declared.membership.StoredMembership.{StoredMembership}
+use Rattle.proof_deeds.specs.raft_state.declared.policy.RejectAppendEntries.{RejectAppendEntries}
+use Rattle.proof_deeds.specs.raft_state.declared.policy.RejectAppendEntries.TheVariants as reject
+use Rattle.proof_deeds.specs.raft_state.declared.state.RaftState.{RaftState}
+use Rattle.proof_deeds.specs.raft_state.Log.{at, last}
+use Rattle.proof_deeds.specs.raft_state.Order.{last_id_cmp, leader_id_cmp}
+use Rattle.proof_deeds.specs.raft_state.State.{accept, accepted, accepted_under, append_membership, extend, has_log_id, truncate, undoes_membership}
+use Rattle.proof_deeds.proofs.raft_state_proofs.Orders.{last_total, le_of_not_gt, le_refl, le_trans, leader_total, lt_is_le, lt_of_gt}
+use Rattle.proof_deeds.specs.raft_command.Message.{append_response}
+use Rattle.proof_deeds.specs.raft_command.Push.{with_command}
+use Rattle.proof_deeds.specs.raft_command.declared.command.Command.TheVariants.{DeleteConflictLog}
+use Rattle.proof_deeds.specs.raft_command.declared.config.EngineConfig.{EngineConfig}
+use Rattle.proof_deeds.specs.raft_command.declared.message.AppendEntriesResponse.{AppendEntriesResponse}
+use Rattle.proof_deeds.specs.raft_command.declared.message.AppendEntriesResponse.TheVariants.{Conflict, Success}
+use Rattle.proof_deeds.specs.raft_steps.Commit.{commit_by}
+use Rattle.proof_deeds.specs.raft_steps.FollowingHandler.{commit_entries, commit_target, consecutive_answer, do_append_entries, ensure_log_consecutive, holds_previous, memberships_in, new_entries, truncate_for, truncate_logs, with_entries}
+use Rattle.proof_deeds.specs.raft_steps.FollowingHandler as following
+use Rattle.proof_deeds.specs.raft_steps.Laws.{later}
+use Rattle.proof_deeds.specs.raft_steps.Parts.{Core, Machine, on_core, with_state}
+use Rattle.proof_deeds.specs.raft_steps.Requests.{append_answer, append_entries, follow, handle_commit_entries}
+use Rattle.proof_deeds.specs.raft_steps.ServerStateHandler.{update_role}
+use Rattle.proof_deeds.specs.raft_steps.VoteHandler.{rejects_vote, update_vote}
+use Rattle.proof_deeds.proofs.raft_steps_proofs.Kept.{commit_by_case, either, either_option}
 
 module _ {NID N : Type 0} where
   -- what was accepted, and from whom, stays

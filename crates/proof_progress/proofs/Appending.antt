@@ -5,36 +5,36 @@ use Rattle.std.specs.List.{AllByRecursion}
 use Rattle.std.specs.Option.{option_map}
 use Rattle.std.specs.Ordering.{is_eq, is_ge, nat_cmp}
 use Rattle.std.proofs.lemmas.Cmp.{nat_cmp_total}
-use Rattle.raft_state.specs.declared.ids.LeaderId.{LeaderId}
-use Rattle.raft_state.specs.declared.ids.LogId.{LogId}
-use Rattle.raft_state.specs.Log.{last}
-use Rattle.raft_state.specs.Order.{last_id_cmp, leader_id_cmp, next}
-use Rattle.raft_state.specs.Policy.{should_snapshot}
-use Rattle.raft_state.specs.Same.{nat_same}
-use Rattle.raft_state.specs.State.{commit, commits}
-use Rattle.raft_state.proofs.LogLists.{each_append}
-use Rattle.raft_state.proofs.Orders.{is_equal}
-use Rattle.raft_progress_entry.specs.declared.entry.Inflight.{Inflight}
-use Rattle.raft_progress_entry.specs.declared.entry.Inflight.TheVariants as inflight
-use Rattle.raft_progress_entry.specs.declared.entry.ProgressEntry.{ProgressEntry}
-use Rattle.raft_progress_entry.specs.Entry.{before, inflight_id, next_send, send_end, send_start, sent}
-use Rattle.raft_progress.specs.Quorum.{is_quorum}
-use Rattle.raft_progress.specs.Table.{get, is_row_of, row_of}
-use Rattle.raft_command.specs.Queue.{Queue, queued}
-use Rattle.raft_command.specs.Push.{committed_upto}
-use Rattle.raft_command.specs.declared.config.EngineConfig.{EngineConfig}
-use Rattle.raft_proposer.specs.Leader.{granted_id, numbered}
-use Rattle.raft_steps.specs.Commit.{commit_by}
-use Rattle.raft_steps.specs.Invariants.{EntryFits}
-use Rattle.raft_state.specs.Invariants.{IsSoundState}
-use Rattle.raft_steps.specs.Parts.{led_of}
-use Rattle.raft_steps.specs.ReplicationHandler.{commit_granted, is_other, own_matched, send_commands, sends_of, sent_row, try_commit_quorum_accepted, update_local_progress, with_entry}
-use Rattle.raft_steps.specs.SnapshotHandler.{snapshot_where_due, trigger_snapshot}
-use Rattle.raft_steps.proofs.Kept.{either, either_option}
-use Rattle.raft_store.specs.declared.entry.Entry.{Entry}
-use Rattle.raft_store.specs.Entries.{entry_meaning}
-use Rattle.raft_store.specs.Types.{WorldCommand, WorldLeader}
-use Rattle.raft_calls.specs.Feeds.{WorldLed, last_sent}
+use Rattle.proof_deeds.specs.raft_state.declared.ids.LeaderId.{LeaderId}
+use Rattle.proof_deeds.specs.raft_state.declared.ids.LogId.{LogId}
+use Rattle.proof_deeds.specs.raft_state.Log.{last}
+use Rattle.proof_deeds.specs.raft_state.Order.{last_id_cmp, leader_id_cmp, next}
+use Rattle.proof_deeds.specs.raft_state.Policy.{should_snapshot}
+use Rattle.proof_deeds.specs.raft_state.Same.{nat_same}
+use Rattle.proof_deeds.specs.raft_state.State.{commit, commits}
+use Rattle.proof_deeds.proofs.raft_state_proofs.LogLists.{each_append}
+use Rattle.proof_deeds.proofs.raft_state_proofs.Orders.{is_equal}
+use Rattle.proof_deeds.specs.raft_progress_entry.declared.entry.Inflight.{Inflight}
+use Rattle.proof_deeds.specs.raft_progress_entry.declared.entry.Inflight.TheVariants as inflight
+use Rattle.proof_deeds.specs.raft_progress_entry.declared.entry.ProgressEntry.{ProgressEntry}
+use Rattle.proof_deeds.specs.raft_progress_entry.Entry.{before, inflight_id, next_send, send_end, send_start, sent}
+use Rattle.proof_deeds.specs.raft_progress.Quorum.{is_quorum}
+use Rattle.proof_deeds.specs.raft_progress.Table.{get, is_row_of, row_of}
+use Rattle.proof_deeds.specs.raft_command.Queue.{Queue, queued}
+use Rattle.proof_deeds.specs.raft_command.Push.{committed_upto}
+use Rattle.proof_deeds.specs.raft_command.declared.config.EngineConfig.{EngineConfig}
+use Rattle.proof_deeds.specs.raft_proposer.Leader.{granted_id, numbered}
+use Rattle.proof_deeds.specs.raft_steps.Commit.{commit_by}
+use Rattle.proof_deeds.specs.raft_steps.Invariants.{EntryFits}
+use Rattle.proof_deeds.specs.raft_state.Invariants.{IsSoundState}
+use Rattle.proof_deeds.specs.raft_steps.Parts.{led_of}
+use Rattle.proof_deeds.specs.raft_steps.ReplicationHandler.{commit_granted, is_other, own_matched, send_commands, sends_of, sent_row, try_commit_quorum_accepted, update_local_progress, with_entry}
+use Rattle.proof_deeds.specs.raft_steps.SnapshotHandler.{snapshot_where_due, trigger_snapshot}
+use Rattle.proof_deeds.proofs.raft_steps_proofs.Kept.{either, either_option}
+use Rattle.proof_deeds.specs.raft_store.declared.entry.Entry.{Entry}
+use Rattle.proof_deeds.specs.raft_store.Entries.{entry_meaning}
+use Rattle.proof_deeds.specs.raft_store.Types.{WorldCommand, WorldLeader}
+use Rattle.proof_deeds.specs.raft_calls.Feeds.{WorldLed, last_sent}
 use Rattle.proof_progress.proofs.Carried.{last_then}
 use Rattle.proof_progress.proofs.KeptVotes.{WorldState}
 use Rattle.proof_progress.proofs.LedQueue.{IsLedCommand, LedQueues, granted_queues, queues_here, queues_more}

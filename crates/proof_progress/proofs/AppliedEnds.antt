@@ -3,19 +3,19 @@ use Rattle.std.proofs.Common.{ℕ, ◌+◌, ◌-◌, ◌≡◌, List, length, ma
 use Rattle.std.specs.Option.{option_map}
 use Rattle.std.proofs.lemmas.List.{length-map}
 use Rattle.std.proofs.lemmas.Option.{slice_get-map}
-use Rattle.raft_state.specs.declared.ids.LogId.{LogId}
-use Rattle.raft_state.specs.Log.{last}
-use Rattle.raft_state.specs.Order.{next}
-use Rattle.raft_store.specs.declared.entry.Entry.{Entry}
-use Rattle.raft_store.specs.Entries.{entry_meaning}
-use Rattle.raft_store.specs.Store.{whole}
-use Rattle.raft_store.specs.Types.{EngineView}
-use Rattle.raft_schedule.specs.declared.event.Event.{Event}
-use Rattle.raft_node.specs.declared.given.Given.{Given}
-use Rattle.raft_node.specs.Net.{NodeView}
-use Rattle.raft_node.specs.Runs.{world_after}
-use Rattle.raft_node.specs.WellFormed.{IsWellFormed}
-use Rattle.proof_mirror.proofs.Shape.{shape_of, whole_end}
+use Rattle.proof_deeds.specs.raft_state.declared.ids.LogId.{LogId}
+use Rattle.proof_deeds.specs.raft_state.Log.{last}
+use Rattle.proof_deeds.specs.raft_state.Order.{next}
+use Rattle.proof_deeds.specs.raft_store.declared.entry.Entry.{Entry}
+use Rattle.proof_deeds.specs.raft_store.Entries.{entry_meaning}
+use Rattle.proof_deeds.specs.raft_store.Store.{whole}
+use Rattle.proof_deeds.specs.raft_store.Types.{EngineView}
+use Rattle.proof_deeds.specs.raft_schedule.declared.event.Event.{Event}
+use Rattle.proof_deeds.specs.raft_node.declared.given.Given.{Given}
+use Rattle.proof_deeds.specs.raft_node.Net.{NodeView}
+use Rattle.proof_deeds.specs.raft_node.Runs.{world_after}
+use Rattle.proof_deeds.specs.raft_node.WellFormed.{IsWellFormed}
+use Rattle.proof_deeds.proofs.proof_mirror_proofs.Shape.{shape_of, whole_end}
 use Rattle.proof_deeds.specs.Images.{setup_of}
 use Rattle.proof_deeds.specs.Nets.{EngineFollows}
 use Rattle.proof_deeds.proofs.Proved.{followed}

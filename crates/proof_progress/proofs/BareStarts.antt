@@ -4,45 +4,45 @@ use Rattle.std.specs.Prelude.{◌==◌, ◌||◌, if◌then◌else◌, map, max,
 use Rattle.std.specs.List.{list_any}
 use Rattle.std.specs.Ordering.{bool_cmp, is_eq, nat_cmp}
 use Rattle.std.proofs.lemmas.Bool.Decides.{nat_tests}
-use Rattle.raft_state.specs.declared.ids.LogId.{LogId}
-use Rattle.raft_state.specs.declared.ids.Vote.{Vote}
-use Rattle.raft_state.specs.declared.membership.Members.{Members}
-use Rattle.raft_state.specs.declared.membership.StoredMembership.{StoredMembership}
-use Rattle.raft_state.specs.declared.state.RaftState.{RaftState}
-use Rattle.raft_state.specs.declared.state.ServerState.TheVariants.{Leader}
-use Rattle.raft_state.specs.Log.{last}
-use Rattle.raft_state.specs.Members.{contains, is_voter, voter_ids}
-use Rattle.raft_state.specs.Order.{next}
-use Rattle.raft_state.specs.State.{is_leader, is_leading}
-use Rattle.raft_state.proofs.Orders.{and_both}
-use Rattle.raft_progress.specs.Quorum.{is_quorum}
-use Rattle.raft_progress.specs.Table.{granted, table_of, updated}
-use Rattle.raft_command.specs.declared.config.EngineConfig.{EngineConfig}
-use Rattle.raft_proposer.specs.Joint.{u64_max}
-use Rattle.raft_steps.specs.Requests.{is_leased, is_within_lease}
-use Rattle.raft_store.specs.declared.entry.Entry.{Entry}
-use Rattle.raft_store.specs.Entries.{entry_meaning}
-use Rattle.raft_store.specs.Restart.{forgotten, is_outrun, rebuilt, restarted, settled_by, start_committed, started}
-use Rattle.raft_store.specs.Types.{EngineView, WorldStore}
-use Rattle.raft_schedule.specs.declared.event.Event.{Event}
-use Rattle.raft_schedule.specs.declared.event.EventKind.TheVariants as kinds
-use Rattle.raft_schedule.specs.declared.event.Outcome.{Outcome}
-use Rattle.raft_schedule.specs.declared.event.Outcome.TheVariants.{Done, Skipped}
-use Rattle.raft_schedule.specs.declared.event.SkipReason.{SkipReason}
-use Rattle.raft_schedule.specs.declared.event.Start.TheVariants.{Bare}
-use Rattle.raft_node.specs.declared.act.Act.TheVariants.{Restart}
-use Rattle.raft_node.specs.declared.given.Given.{Given}
-use Rattle.raft_node.specs.declared.node.Turn.{Turn}
-use Rattle.raft_calls.specs.declared.message.Body.TheVariants as body
-use Rattle.raft_calls.specs.Elections.{elected}
-use Rattle.raft_calls.specs.Starts.{begun_anew, resumed}
-use Rattle.raft_node.specs.Events.{Scene, aim_of, called_at, calls, finish, happens, moment_of, outcome_of, played, scene, scene_of, skip_reason, with_answer}
-use Rattle.raft_node.specs.Execute.{effects, others, sending, to_each}
-use Rattle.raft_node.specs.Net.{Net, NodeView, Records, no_streams}
-use Rattle.raft_node.specs.Runs.{whole_logs}
-use Rattle.raft_node.specs.Starts.{engine_on, started_with, unsaved}
-use Rattle.raft_node.specs.Work.{Work, weight, worked}
-use Rattle.raft_node.proofs.Worked.{worked-idle}
+use Rattle.proof_deeds.specs.raft_state.declared.ids.LogId.{LogId}
+use Rattle.proof_deeds.specs.raft_state.declared.ids.Vote.{Vote}
+use Rattle.proof_deeds.specs.raft_state.declared.membership.Members.{Members}
+use Rattle.proof_deeds.specs.raft_state.declared.membership.StoredMembership.{StoredMembership}
+use Rattle.proof_deeds.specs.raft_state.declared.state.RaftState.{RaftState}
+use Rattle.proof_deeds.specs.raft_state.declared.state.ServerState.TheVariants.{Leader}
+use Rattle.proof_deeds.specs.raft_state.Log.{last}
+use Rattle.proof_deeds.specs.raft_state.Members.{contains, is_voter, voter_ids}
+use Rattle.proof_deeds.specs.raft_state.Order.{next}
+use Rattle.proof_deeds.specs.raft_state.State.{is_leader, is_leading}
+use Rattle.proof_deeds.proofs.raft_state_proofs.Orders.{and_both}
+use Rattle.proof_deeds.specs.raft_progress.Quorum.{is_quorum}
+use Rattle.proof_deeds.specs.raft_progress.Table.{granted, table_of, updated}
+use Rattle.proof_deeds.specs.raft_command.declared.config.EngineConfig.{EngineConfig}
+use Rattle.proof_deeds.specs.raft_proposer.Joint.{u64_max}
+use Rattle.proof_deeds.specs.raft_steps.Requests.{is_leased, is_within_lease}
+use Rattle.proof_deeds.specs.raft_store.declared.entry.Entry.{Entry}
+use Rattle.proof_deeds.specs.raft_store.Entries.{entry_meaning}
+use Rattle.proof_deeds.specs.raft_store.Restart.{forgotten, is_outrun, rebuilt, restarted, settled_by, start_committed, started}
+use Rattle.proof_deeds.specs.raft_store.Types.{EngineView, WorldStore}
+use Rattle.proof_deeds.specs.raft_schedule.declared.event.Event.{Event}
+use Rattle.proof_deeds.specs.raft_schedule.declared.event.EventKind.TheVariants as kinds
+use Rattle.proof_deeds.specs.raft_schedule.declared.event.Outcome.{Outcome}
+use Rattle.proof_deeds.specs.raft_schedule.declared.event.Outcome.TheVariants.{Done, Skipped}
+use Rattle.proof_deeds.specs.raft_schedule.declared.event.SkipReason.{SkipReason}
+use Rattle.proof_deeds.specs.raft_schedule.declared.event.Start.TheVariants.{Bare}
+use Rattle.proof_deeds.specs.raft_node.declared.act.Act.TheVariants.{Restart}
+use Rattle.proof_deeds.specs.raft_node.declared.given.Given.{Given}
+use Rattle.proof_deeds.specs.raft_node.declared.node.Turn.{Turn}
+use Rattle.proof_deeds.specs.raft_calls.declared.message.Body.TheVariants as body
+use Rattle.proof_deeds.specs.raft_calls.Elections.{elected}
+use Rattle.proof_deeds.specs.raft_calls.Starts.{begun_anew, resumed}
+use Rattle.proof_deeds.specs.raft_node.Events.{Scene, aim_of, called_at, calls, finish, happens, moment_of, outcome_of, played, scene, scene_of, skip_reason, with_answer}
+use Rattle.proof_deeds.specs.raft_node.Execute.{effects, others, sending, to_each}
+use Rattle.proof_deeds.specs.raft_node.Net.{Net, NodeView, Records, no_streams}
+use Rattle.proof_deeds.specs.raft_node.Runs.{whole_logs}
+use Rattle.proof_deeds.specs.raft_node.Starts.{engine_on, started_with, unsaved}
+use Rattle.proof_deeds.specs.raft_node.Work.{Work, weight, worked}
+use Rattle.proof_deeds.proofs.raft_node_proofs.Worked.{worked-idle}
 use Rattle.proof_progress.specs.Continuations.{At, restart_bare}
 use Rattle.proof_progress.specs.Elections.{Listed}
 use Rattle.proof_progress.specs.Plans.{start_bare}
@@ -355,9 +355,9 @@ pub bare_starts : (given : Given) (now : ℕ) (N : NodeView) (net : Net (List En
     → (is_leader nat_cmp (started nat_cmp entry_meaning false N.store) N.id ≡ true → is_enough now (engine_on given.settings false N) ≡ false)
     → BareStarted net (happens whole_logs weight given (restart_bare n now) net).1 now n (engine_on given.settings false N)
 bare_starts given now N net n at l term room few =
-    subst (λ (s : RaftState ℕ (Unit {0})). BareStarted net (happens whole_logs weight given (restart_bare n now) net).1 now n (let e : EngineView = record (engine_on given.settings false N) { machine = Rattle.raft_steps.specs.Parts.idle s } in e)) (forgets N.store)
+    subst (λ (s : RaftState ℕ (Unit {0})). BareStarted net (happens whole_logs weight given (restart_bare n now) net).1 now n (let e : EngineView = record (engine_on given.settings false N) { machine = Rattle.proof_deeds.specs.raft_steps.Parts.idle s } in e)) (forgets N.store)
     (started_unsaved given now N net n at l term (subst (λ (s : RaftState ℕ (Unit {0})). next (last s.ids) < u64_max) (sym (forgets N.store)) room)
-    (λ q. subst (λ (s : RaftState ℕ (Unit {0})). is_enough now (let e : EngineView = record (engine_on given.settings false N) { machine = Rattle.raft_steps.specs.Parts.idle s } in e) ≡ false) (sym (forgets N.store))
+    (λ q. subst (λ (s : RaftState ℕ (Unit {0})). is_enough now (let e : EngineView = record (engine_on given.settings false N) { machine = Rattle.proof_deeds.specs.raft_steps.Parts.idle s } in e) ≡ false) (sym (forgets N.store))
     (few (subst (λ (s : RaftState ℕ (Unit {0})). is_leader nat_cmp s N.id ≡ true) (forgets N.store) q))))
 
 -- One that leads by its stored vote, is a voter and a quorum alone, leads at once, in a new term
@@ -366,7 +366,7 @@ pub bare_leads : (given : Given) (now : ℕ) (N : NodeView) (net : Net (List Ent
     → LeadsSince (engine_on given.settings false N) (stood_vote (engine_on given.settings false N)).leader_id (happens whole_logs weight given (restart_bare n now) net).1 now n
 bare_leads given now N net n at l term room q v enough =
     subst
-    (λ (s : RaftState ℕ (Unit {0})). let e : EngineView = record (engine_on given.settings false N) { machine = Rattle.raft_steps.specs.Parts.idle s } in LeadsSince e (stood_vote e).leader_id (happens whole_logs weight given (restart_bare n now) net).1 now n) (forgets N.store)
+    (λ (s : RaftState ℕ (Unit {0})). let e : EngineView = record (engine_on given.settings false N) { machine = Rattle.proof_deeds.specs.raft_steps.Parts.idle s } in LeadsSince e (stood_vote e).leader_id (happens whole_logs weight given (restart_bare n now) net).1 now n) (forgets N.store)
     (by_winning given now N net n at l term (subst (λ (s : RaftState ℕ (Unit {0})). next (last s.ids) < u64_max) (sym (forgets N.store)) room)
     (subst (λ (s : RaftState ℕ (Unit {0})). is_leader nat_cmp s N.id ≡ true) (sym (forgets N.store)) q) (subst (λ (s : RaftState ℕ (Unit {0})). is_voter nat_cmp s.em.membership N.id ≡ true) (sym (forgets N.store)) v)
-    (subst (λ (s : RaftState ℕ (Unit {0})). is_enough now (let e : EngineView = record (engine_on given.settings false N) { machine = Rattle.raft_steps.specs.Parts.idle s } in e) ≡ true) (sym (forgets N.store)) enough))
+    (subst (λ (s : RaftState ℕ (Unit {0})). is_enough now (let e : EngineView = record (engine_on given.settings false N) { machine = Rattle.proof_deeds.specs.raft_steps.Parts.idle s } in e) ≡ true) (sym (forgets N.store)) enough))

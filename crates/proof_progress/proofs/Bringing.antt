@@ -3,62 +3,62 @@
 use Rattle.std.specs.Prelude.{◌≤◌, Bool, IfSome, List, None, Option, Result, Some, [], false, true, ◌&&◌, ◌⊎◌, if◌then◌else◌, length, min, nat_lt, refl, ℕ, ◌+◌, ◌==◌, ◌∷◌, ◌≡◌}
 use Rattle.std.specs.Ordering.{is_eq, is_gt, is_lt, nat_cmp}
 use Rattle.std.proofs.Common.{arith, inl, inr, subst, sym, ◌∙◌}
-use Rattle.raft_state.proofs.Orders.{and_both}
-use Rattle.raft_state.specs.Members.{contains}
-use Rattle.raft_state.specs.declared.ids.LeaderId.{LeaderId}
-use Rattle.raft_state.specs.declared.ids.LogId.{LogId}
-use Rattle.raft_state.specs.declared.ids.Vote.{Vote}
-use Rattle.raft_state.specs.declared.membership.SnapshotMeta.{SnapshotMeta}
-use Rattle.raft_state.specs.Log.{at, last}
-use Rattle.raft_state.specs.Order.{last_id_cmp, leader_id_cmp, next, vote_cmp}
-use Rattle.raft_state.specs.State.{by_last_leader, is_leader, is_leading, purge}
-use Rattle.raft_progress_entry.specs.declared.entry.ProgressEntry.{ProgressEntry}
-use Rattle.raft_progress.specs.Quorum.{is_quorum}
-use Rattle.raft_command.specs.declared.command.Command.TheVariants.{AppendInputEntries, DeleteConflictLog, PurgeLog, Respond, SaveVote, SendVote, StateMachine}
-use Rattle.raft_command.specs.declared.config.EngineConfig.{EngineConfig}
-use Rattle.raft_command.specs.declared.message.Token.{Token}
-use Rattle.raft_command.specs.declared.message.VoteRequest.{VoteRequest}
-use Rattle.raft_command.specs.declared.message.VoteResponse.{VoteResponse}
-use Rattle.raft_command.specs.declared.replication.ReplicationResult.{ReplicationResult}
-use Rattle.raft_command.specs.declared.replication.RequestId.{RequestId}
-use Rattle.raft_command.specs.Message.{append_response}
-use Rattle.raft_command.specs.Push.{with_command}
-use Rattle.raft_proposer.specs.Candidate.{candidate_of, grant_by, into_leader, is_granted}
-use Rattle.raft_steps.specs.Engine.{as_uncommitted, default_log_id, elect, handle_vote_resp, initialize, is_granted_to, lead_by_votes, may_establish, take_grant, take_rejection}
-use Rattle.raft_steps.specs.FollowingHandler.{commit_entries, commit_target, do_append_entries, memberships_in, with_entries}
-use Rattle.raft_steps.specs.Laws.{QueuesOnly}
-use Rattle.raft_steps.specs.LogHandler.{is_target_inflight, purge_log, schedule_policy_based_purge, try_purge_log, update_purge_upto}
-use Rattle.raft_steps.specs.Parts.{leading, on_core, on_leader, then_command, under, with_state}
-use Rattle.raft_steps.specs.Refusals.{rows_in}
-use Rattle.raft_steps.specs.Replies.{purge_unless_inflight, take_reply, update_progress}
-use Rattle.raft_steps.specs.ReplicationHandler.{append_membership_led, initiate_replication, rebuild_progresses, rebuild_replication_streams, update_local_progress}
-use Rattle.raft_steps.specs.Requests.{append_answer, append_entries, follow, handle_append_entries, handle_commit_entries, handle_vote_req, refuses_vote_req}
-use Rattle.raft_steps.specs.ServerStateHandler.{update_role}
-use Rattle.raft_steps.specs.SnapshotCalls.{built, finish_building_snapshot, trigger_purge_log}
-use Rattle.raft_steps.specs.SnapshotHandler.{is_newer_snapshot, trigger_snapshot, update_snapshot}
-use Rattle.raft_steps.specs.Starts.{is_settled, lead_on, leader_step_down, startup}
-use Rattle.raft_steps.specs.VoteHandler.{become_following, become_leader, begin_lead, lead_anew, rejects_vote, take_vote, update_internal_server_state, update_vote}
-use Rattle.raft_steps.proofs.Allowed.{AllowsLeading, commit_by_only, following_only, initiate_only, leader_append_only, local_only, only_here, only_of, only_then, rebuild_only, role_only, trigger_only}
-use Rattle.raft_steps.proofs.Kept.{either, either_option}
-use Rattle.raft_steps.proofs.Marks.{internal_marks}
-use Rattle.raft_steps.proofs.LawsPurge.{reply_only, sends_only}
-use Rattle.raft_store.specs.declared.entry.Entry.{Entry}
-use Rattle.raft_store.specs.Entries.{entry_meaning}
-use Rattle.raft_store.specs.Types.{WorldCandidate, WorldCommand, WorldLeader, WorldMachine, WorldPayload, WorldSnapshot}
-use Rattle.raft_calls.specs.Engines.{WorldRespond}
-use Rattle.raft_calls.specs.Feeds.{WorldLed}
-use Rattle.raft_calls.proofs.Falls.{WorldCore}
+use Rattle.proof_deeds.proofs.raft_state_proofs.Orders.{and_both}
+use Rattle.proof_deeds.specs.raft_state.Members.{contains}
+use Rattle.proof_deeds.specs.raft_state.declared.ids.LeaderId.{LeaderId}
+use Rattle.proof_deeds.specs.raft_state.declared.ids.LogId.{LogId}
+use Rattle.proof_deeds.specs.raft_state.declared.ids.Vote.{Vote}
+use Rattle.proof_deeds.specs.raft_state.declared.membership.SnapshotMeta.{SnapshotMeta}
+use Rattle.proof_deeds.specs.raft_state.Log.{at, last}
+use Rattle.proof_deeds.specs.raft_state.Order.{last_id_cmp, leader_id_cmp, next, vote_cmp}
+use Rattle.proof_deeds.specs.raft_state.State.{by_last_leader, is_leader, is_leading, purge}
+use Rattle.proof_deeds.specs.raft_progress_entry.declared.entry.ProgressEntry.{ProgressEntry}
+use Rattle.proof_deeds.specs.raft_progress.Quorum.{is_quorum}
+use Rattle.proof_deeds.specs.raft_command.declared.command.Command.TheVariants.{AppendInputEntries, DeleteConflictLog, PurgeLog, Respond, SaveVote, SendVote, StateMachine}
+use Rattle.proof_deeds.specs.raft_command.declared.config.EngineConfig.{EngineConfig}
+use Rattle.proof_deeds.specs.raft_command.declared.message.Token.{Token}
+use Rattle.proof_deeds.specs.raft_command.declared.message.VoteRequest.{VoteRequest}
+use Rattle.proof_deeds.specs.raft_command.declared.message.VoteResponse.{VoteResponse}
+use Rattle.proof_deeds.specs.raft_command.declared.replication.ReplicationResult.{ReplicationResult}
+use Rattle.proof_deeds.specs.raft_command.declared.replication.RequestId.{RequestId}
+use Rattle.proof_deeds.specs.raft_command.Message.{append_response}
+use Rattle.proof_deeds.specs.raft_command.Push.{with_command}
+use Rattle.proof_deeds.specs.raft_proposer.Candidate.{candidate_of, grant_by, into_leader, is_granted}
+use Rattle.proof_deeds.specs.raft_steps.Engine.{as_uncommitted, default_log_id, elect, handle_vote_resp, initialize, is_granted_to, lead_by_votes, may_establish, take_grant, take_rejection}
+use Rattle.proof_deeds.specs.raft_steps.FollowingHandler.{commit_entries, commit_target, do_append_entries, memberships_in, with_entries}
+use Rattle.proof_deeds.specs.raft_steps.Laws.{QueuesOnly}
+use Rattle.proof_deeds.specs.raft_steps.LogHandler.{is_target_inflight, purge_log, schedule_policy_based_purge, try_purge_log, update_purge_upto}
+use Rattle.proof_deeds.specs.raft_steps.Parts.{leading, on_core, on_leader, then_command, under, with_state}
+use Rattle.proof_deeds.specs.raft_steps.Refusals.{rows_in}
+use Rattle.proof_deeds.specs.raft_steps.Replies.{purge_unless_inflight, take_reply, update_progress}
+use Rattle.proof_deeds.specs.raft_steps.ReplicationHandler.{append_membership_led, initiate_replication, rebuild_progresses, rebuild_replication_streams, update_local_progress}
+use Rattle.proof_deeds.specs.raft_steps.Requests.{append_answer, append_entries, follow, handle_append_entries, handle_commit_entries, handle_vote_req, refuses_vote_req}
+use Rattle.proof_deeds.specs.raft_steps.ServerStateHandler.{update_role}
+use Rattle.proof_deeds.specs.raft_steps.SnapshotCalls.{built, finish_building_snapshot, trigger_purge_log}
+use Rattle.proof_deeds.specs.raft_steps.SnapshotHandler.{is_newer_snapshot, trigger_snapshot, update_snapshot}
+use Rattle.proof_deeds.specs.raft_steps.Starts.{is_settled, lead_on, leader_step_down, startup}
+use Rattle.proof_deeds.specs.raft_steps.VoteHandler.{become_following, become_leader, begin_lead, lead_anew, rejects_vote, take_vote, update_internal_server_state, update_vote}
+use Rattle.proof_deeds.proofs.raft_steps_proofs.Allowed.{AllowsLeading, commit_by_only, following_only, initiate_only, leader_append_only, local_only, only_here, only_of, only_then, rebuild_only, role_only, trigger_only}
+use Rattle.proof_deeds.proofs.raft_steps_proofs.Kept.{either, either_option}
+use Rattle.proof_deeds.proofs.raft_steps_proofs.Marks.{internal_marks}
+use Rattle.proof_deeds.proofs.raft_steps_proofs.LawsPurge.{reply_only, sends_only}
+use Rattle.proof_deeds.specs.raft_store.declared.entry.Entry.{Entry}
+use Rattle.proof_deeds.specs.raft_store.Entries.{entry_meaning}
+use Rattle.proof_deeds.specs.raft_store.Types.{WorldCandidate, WorldCommand, WorldLeader, WorldMachine, WorldPayload, WorldSnapshot}
+use Rattle.proof_deeds.specs.raft_calls.Engines.{WorldRespond}
+use Rattle.proof_deeds.specs.raft_calls.Feeds.{WorldLed}
+use Rattle.proof_deeds.proofs.raft_calls_proofs.Falls.{WorldCore}
 use Rattle.std.specs.List.{AllByRecursion}
-use Rattle.raft_command.specs.declared.command.Condition.{Condition}
-use Rattle.raft_command.specs.declared.sm.CommandPayload.TheVariants.{InstallFullSnapshot}
-use Rattle.raft_steps.specs.Installs.{handle_install_full_snapshot, install_and_reply, installs, reply_install}
-use Rattle.raft_proposer.specs.Leader.{leader_in}
-use Rattle.raft_steps.specs.LeaderHandler.{last_proposed, leader_append_entries, proposed}
+use Rattle.proof_deeds.specs.raft_command.declared.command.Condition.{Condition}
+use Rattle.proof_deeds.specs.raft_command.declared.sm.CommandPayload.TheVariants.{InstallFullSnapshot}
+use Rattle.proof_deeds.specs.raft_steps.Installs.{handle_install_full_snapshot, install_and_reply, installs, reply_install}
+use Rattle.proof_deeds.specs.raft_proposer.Leader.{leader_in}
+use Rattle.proof_deeds.specs.raft_steps.LeaderHandler.{last_proposed, leader_append_entries, proposed}
 use Rattle.proof_deeds.specs.Images.{number}
 use Rattle.proof_progress.proofs.Tables.{eq_of}
 use Rattle.proof_progress.proofs.SameVotes.{lead_on_vote, on_leader_vote, won_vote}
 use Rattle.proof_progress.proofs.Top.{IsFirst}
-use Rattle.raft_command.specs.declared.respond.Respond.TheVariants as respond
+use Rattle.proof_deeds.specs.raft_command.declared.respond.Respond.TheVariants as respond
 
 -- a leader id of the node, not below a number
 abbrev pub Own : ℕ → ℕ → LeaderId ℕ → Type 0

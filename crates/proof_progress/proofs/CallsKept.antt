@@ -6,32 +6,32 @@ use Rattle.std.proofs.Common.{take-append-drop}
 use Rattle.std.specs.Map.{values_of}
 use Rattle.std.specs.Ordering.{nat_cmp}
 use Rattle.std.proofs.lemmas.Cmp.{nat_cmp_total}
-use Rattle.raft_state.specs.declared.ids.LogId.{LogId}
-use Rattle.raft_state.specs.declared.state.RaftState.{RaftState}
-use Rattle.raft_state.specs.Log.{last}
-use Rattle.raft_state.specs.Order.{next}
-use Rattle.raft_state.specs.Same.{nat_same}
-use Rattle.raft_store.specs.declared.entry.Entry.{Entry}
-use Rattle.raft_store.specs.Built.{meta_of}
-use Rattle.raft_store.specs.Entries.{entry_meaning}
-use Rattle.raft_store.specs.Restart.{forgotten, is_outrun, restarted, settled_by, started}
-use Rattle.raft_store.specs.Store.{past, whole}
-use Rattle.raft_store.specs.Types.{EngineView, WorldStore}
-use Rattle.raft_store.proofs.Lists.{Run, onward}
-use Rattle.raft_schedule.specs.declared.event.SkipReason.{SkipReason}
-use Rattle.raft_schedule.specs.declared.event.SkipReason.TheVariants.{NotRunning}
-use Rattle.raft_schedule.specs.declared.event.Start.TheVariants.{Plain, Saved, Bare}
-use Rattle.raft_calls.specs.Snapshots.{told_built}
-use Rattle.raft_node.specs.declared.act.Act.{Act}
-use Rattle.raft_node.specs.declared.act.Act.TheVariants.{ChangeLearners, ChangeMembership, Elect, Fail, FinishSnapshot, Initialize, Propose, Read, Restart, SendHeartbeat, StepDown, Stop, Take, TriggerPurge, TriggerSnapshot}
-use Rattle.raft_node.specs.declared.given.Given.{Given}
-use Rattle.raft_node.specs.Events.{calls_at, on_engine, skip_reason, skip_running, skip_stopped}
-use Rattle.raft_node.specs.Net.{NodeView, Records, stopped_node}
-use Rattle.raft_node.specs.Snapshots.{finish_snapshot, kept_built}
-use Rattle.proof_mirror.specs.Ready.{InStep, Ordered, Shaped}
-use Rattle.proof_mirror.proofs.Restarting.{restart_in_step}
-use Rattle.proof_mirror.proofs.Shape.{Shape, onward_whole, past_keyed, shape_of, whole_end, whole_run}
-use Rattle.proof_agreement.specs.Machine.{Setup}
+use Rattle.proof_deeds.specs.raft_state.declared.ids.LogId.{LogId}
+use Rattle.proof_deeds.specs.raft_state.declared.state.RaftState.{RaftState}
+use Rattle.proof_deeds.specs.raft_state.Log.{last}
+use Rattle.proof_deeds.specs.raft_state.Order.{next}
+use Rattle.proof_deeds.specs.raft_state.Same.{nat_same}
+use Rattle.proof_deeds.specs.raft_store.declared.entry.Entry.{Entry}
+use Rattle.proof_deeds.specs.raft_store.Built.{meta_of}
+use Rattle.proof_deeds.specs.raft_store.Entries.{entry_meaning}
+use Rattle.proof_deeds.specs.raft_store.Restart.{forgotten, is_outrun, restarted, settled_by, started}
+use Rattle.proof_deeds.specs.raft_store.Store.{past, whole}
+use Rattle.proof_deeds.specs.raft_store.Types.{EngineView, WorldStore}
+use Rattle.proof_deeds.proofs.raft_store_proofs.Lists.{Run, onward}
+use Rattle.proof_deeds.specs.raft_schedule.declared.event.SkipReason.{SkipReason}
+use Rattle.proof_deeds.specs.raft_schedule.declared.event.SkipReason.TheVariants.{NotRunning}
+use Rattle.proof_deeds.specs.raft_schedule.declared.event.Start.TheVariants.{Plain, Saved, Bare}
+use Rattle.proof_deeds.specs.raft_calls.Snapshots.{told_built}
+use Rattle.proof_deeds.specs.raft_node.declared.act.Act.{Act}
+use Rattle.proof_deeds.specs.raft_node.declared.act.Act.TheVariants.{ChangeLearners, ChangeMembership, Elect, Fail, FinishSnapshot, Initialize, Propose, Read, Restart, SendHeartbeat, StepDown, Stop, Take, TriggerPurge, TriggerSnapshot}
+use Rattle.proof_deeds.specs.raft_node.declared.given.Given.{Given}
+use Rattle.proof_deeds.specs.raft_node.Events.{calls_at, on_engine, skip_reason, skip_running, skip_stopped}
+use Rattle.proof_deeds.specs.raft_node.Net.{NodeView, Records, stopped_node}
+use Rattle.proof_deeds.specs.raft_node.Snapshots.{finish_snapshot, kept_built}
+use Rattle.proof_deeds.specs.proof_mirror.Ready.{InStep, Ordered, Shaped}
+use Rattle.proof_deeds.proofs.proof_mirror_proofs.Restarting.{restart_in_step}
+use Rattle.proof_deeds.proofs.proof_mirror_proofs.Shape.{Shape, onward_whole, past_keyed, shape_of, whole_end, whole_run}
+use Rattle.proof_deeds.specs.proof_agreement.Machine.{Setup}
 use Rattle.proof_deeds.specs.Chains.{Reached}
 use Rattle.proof_deeds.specs.Images.{Ideal, images, setup_of}
 use Rattle.proof_deeds.specs.Nets.{EngineFollows, NodeFollows}

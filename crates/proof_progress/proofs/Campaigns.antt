@@ -6,40 +6,40 @@ use Rattle.std.specs.List.{AllByRecursion}
 use Rattle.std.specs.Ordering.{is_eq, nat_cmp}
 use Rattle.std.proofs.lemmas.Bool.Decides.{nat_tests}
 use Rattle.std.proofs.lemmas.List.{length-append}
-use Rattle.raft_state.specs.declared.ids.LeaderId.{LeaderId}
-use Rattle.raft_state.specs.declared.ids.LogId.{LogId}
-use Rattle.raft_state.specs.declared.ids.Vote.{Vote}
-use Rattle.raft_state.specs.declared.membership.StoredMembership.{StoredMembership}
-use Rattle.raft_state.specs.Log.{last}
-use Rattle.raft_state.specs.Members.{learner_ids, voter_ids}
-use Rattle.raft_state.specs.Order.{next, vote_cmp}
-use Rattle.raft_progress.specs.Quorum.{is_quorum}
-use Rattle.raft_progress.specs.Table.{row_ids}
-use Rattle.raft_command.specs.declared.command.Command.TheVariants.{AppendInputEntries, BecomeLeader, RebuildReplicationStreams, SaveVote}
-use Rattle.raft_command.specs.declared.config.EngineConfig.{EngineConfig}
-use Rattle.raft_command.specs.declared.message.VoteResponse.{VoteResponse}
-use Rattle.raft_command.specs.declared.replication.ReplicationSessionId.{ReplicationSessionId}
-use Rattle.raft_proposer.specs.Candidate.{as_committed, grant_by, is_granted}
-use Rattle.raft_proposer.specs.Joint.{u64_max}
-use Rattle.raft_steps.specs.Engine.{lead_by_votes}
-use Rattle.raft_steps.specs.Refusals.{refusals_of_vote_resp}
-use Rattle.raft_store.specs.declared.entry.Entry.{Entry}
-use Rattle.raft_store.specs.Types.{EngineView, WorldCandidate, WorldCommand, WorldLeader, WorldMachine}
-use Rattle.raft_schedule.specs.declared.event.Event.{Event}
-use Rattle.raft_node.specs.declared.act.Act.TheVariants.{Take}
-use Rattle.raft_node.specs.declared.act.Aim.{Aim}
-use Rattle.raft_node.specs.declared.given.Given.{Given}
-use Rattle.raft_calls.specs.declared.message.Body.TheVariants as body
-use Rattle.raft_calls.specs.declared.message.Message.{Message}
-use Rattle.raft_node.specs.declared.node.Streams.{Streams}
-use Rattle.raft_node.specs.declared.node.Turn.{Turn}
-use Rattle.raft_calls.specs.Deliveries.{take_vote_reply, take_vote_request, vote_replied, vote_reply}
-use Rattle.raft_node.specs.Events.{happens, message_at}
-use Rattle.raft_node.specs.Execute.{sending}
-use Rattle.raft_node.specs.Net.{Net, NodeView, Records}
-use Rattle.raft_node.specs.Runs.{whole_logs}
-use Rattle.raft_node.specs.Work.{Work, weight, worked}
-use Rattle.raft_node.proofs.Worked.{worked-idle}
+use Rattle.proof_deeds.specs.raft_state.declared.ids.LeaderId.{LeaderId}
+use Rattle.proof_deeds.specs.raft_state.declared.ids.LogId.{LogId}
+use Rattle.proof_deeds.specs.raft_state.declared.ids.Vote.{Vote}
+use Rattle.proof_deeds.specs.raft_state.declared.membership.StoredMembership.{StoredMembership}
+use Rattle.proof_deeds.specs.raft_state.Log.{last}
+use Rattle.proof_deeds.specs.raft_state.Members.{learner_ids, voter_ids}
+use Rattle.proof_deeds.specs.raft_state.Order.{next, vote_cmp}
+use Rattle.proof_deeds.specs.raft_progress.Quorum.{is_quorum}
+use Rattle.proof_deeds.specs.raft_progress.Table.{row_ids}
+use Rattle.proof_deeds.specs.raft_command.declared.command.Command.TheVariants.{AppendInputEntries, BecomeLeader, RebuildReplicationStreams, SaveVote}
+use Rattle.proof_deeds.specs.raft_command.declared.config.EngineConfig.{EngineConfig}
+use Rattle.proof_deeds.specs.raft_command.declared.message.VoteResponse.{VoteResponse}
+use Rattle.proof_deeds.specs.raft_command.declared.replication.ReplicationSessionId.{ReplicationSessionId}
+use Rattle.proof_deeds.specs.raft_proposer.Candidate.{as_committed, grant_by, is_granted}
+use Rattle.proof_deeds.specs.raft_proposer.Joint.{u64_max}
+use Rattle.proof_deeds.specs.raft_steps.Engine.{lead_by_votes}
+use Rattle.proof_deeds.specs.raft_steps.Refusals.{refusals_of_vote_resp}
+use Rattle.proof_deeds.specs.raft_store.declared.entry.Entry.{Entry}
+use Rattle.proof_deeds.specs.raft_store.Types.{EngineView, WorldCandidate, WorldCommand, WorldLeader, WorldMachine}
+use Rattle.proof_deeds.specs.raft_schedule.declared.event.Event.{Event}
+use Rattle.proof_deeds.specs.raft_node.declared.act.Act.TheVariants.{Take}
+use Rattle.proof_deeds.specs.raft_node.declared.act.Aim.{Aim}
+use Rattle.proof_deeds.specs.raft_node.declared.given.Given.{Given}
+use Rattle.proof_deeds.specs.raft_calls.declared.message.Body.TheVariants as body
+use Rattle.proof_deeds.specs.raft_calls.declared.message.Message.{Message}
+use Rattle.proof_deeds.specs.raft_node.declared.node.Streams.{Streams}
+use Rattle.proof_deeds.specs.raft_node.declared.node.Turn.{Turn}
+use Rattle.proof_deeds.specs.raft_calls.Deliveries.{take_vote_reply, take_vote_request, vote_replied, vote_reply}
+use Rattle.proof_deeds.specs.raft_node.Events.{happens, message_at}
+use Rattle.proof_deeds.specs.raft_node.Execute.{sending}
+use Rattle.proof_deeds.specs.raft_node.Net.{Net, NodeView, Records}
+use Rattle.proof_deeds.specs.raft_node.Runs.{whole_logs}
+use Rattle.proof_deeds.specs.raft_node.Work.{Work, weight, worked}
+use Rattle.proof_deeds.proofs.raft_node_proofs.Worked.{worked-idle}
 use Rattle.proof_progress.specs.Continuations.{At, deliver, goes_on}
 use Rattle.proof_progress.specs.Elections.{Apart, Listed, pending}
 use Rattle.proof_progress.specs.Plans.{asks_vote, collect, exchange, is_leading, number_of, sends, world_then}
@@ -108,7 +108,7 @@ module _ (d : LeaderId ℕ) (gs : List (List ℕ)) (G : List ℕ) (e : EngineVie
   abbrev after : EngineView
   after = vote_replied t (grant d y) now e
 
-  granted_to : Rattle.raft_command.specs.Message.is_granted_to nat_cmp (grant d y) h.candidate.vote ≡ true
+  granted_to : Rattle.proof_deeds.specs.raft_command.Message.is_granted_to nat_cmp (grant d y) h.candidate.vote ≡ true
   granted_to = subst (λ v. is_eq (vote_cmp nat_cmp (pending d) v) ≡ true) (sym h.vote) (ap is_eq (vote_itself (pending d)))
 
   pub reply_taken : ◌≡◌ {A = Option ℕ × EngineView} (take_vote_reply t (grant d y) now e) (None, vote_replied t (grant d y) now e)
@@ -163,8 +163,8 @@ module _ (d : LeaderId ℕ) (gs : List (List ℕ)) (G : List ℕ) (e : EngineVie
   then_wins q =
       subst (λ (m : WorldMachine). Won (record { leader_id = d; committed = true }) [] m)
       (sym (counts e.config t now (grant d y) h.candidate e.machine h.is granted_to ∙ wins e.config t now h.candidate e.machine q))
-      (subst (λ (xs : List WorldCommand). Won (record { leader_id = d; committed = true }) xs (lead_by_votes nat_cmp Rattle.raft_store.specs.Entries.entry_meaning e.config (grant_by nat_cmp h.candidate t) now e.machine)) h.rest
-      (subst (λ (v : Vote ℕ). Won (as_committed v) e.machine.core.output.items (lead_by_votes nat_cmp Rattle.raft_store.specs.Entries.entry_meaning e.config (grant_by nat_cmp h.candidate t) now e.machine)) h.vote
+      (subst (λ (xs : List WorldCommand). Won (record { leader_id = d; committed = true }) xs (lead_by_votes nat_cmp Rattle.proof_deeds.specs.raft_store.Entries.entry_meaning e.config (grant_by nat_cmp h.candidate t) now e.machine)) h.rest
+      (subst (λ (v : Vote ℕ). Won (as_committed v) e.machine.core.output.items (lead_by_votes nat_cmp Rattle.proof_deeds.specs.raft_store.Entries.entry_meaning e.config (grant_by nat_cmp h.candidate t) now e.machine)) h.vote
       (won e.config (grant_by nat_cmp h.candidate t) now e.machine may_more)))
 
 -- Worlds
@@ -197,7 +197,7 @@ module _ (given : Given) (now : ℕ) where
         (grant_works h.node.id n now now (record { vote = pending d; last_log_id = x }) d h.engine (work_begins h.node net.records)))
         id
       where
-        running : (o : Option EngineView) → o ≡ Some h.engine → ◌≡◌ {A = Option Rattle.raft_schedule.specs.declared.event.SkipReason.SkipReason} (elim o [ None ↦ Some Rattle.raft_schedule.specs.declared.event.SkipReason.TheVariants.NotRunning | Some e ↦ None ]) None
+        running : (o : Option EngineView) → o ≡ Some h.engine → ◌≡◌ {A = Option Rattle.proof_deeds.specs.raft_schedule.declared.event.SkipReason.SkipReason} (elim o [ None ↦ Some Rattle.proof_deeds.specs.raft_schedule.declared.event.SkipReason.TheVariants.NotRunning | Some e ↦ None ]) None
         running None e = cc
         running (Some e) z = refl
 
@@ -220,7 +220,7 @@ module _ (given : Given) (now : ℕ) where
         (running node.engine runs) (latest now node.moment moment) refl (reply_taken d gs G e h t now y row) w)
         (at_id net.nodes n node at)
       where
-        running : (o : Option EngineView) → o ≡ Some e → ◌≡◌ {A = Option Rattle.raft_schedule.specs.declared.event.SkipReason.SkipReason} (elim o [ None ↦ Some Rattle.raft_schedule.specs.declared.event.SkipReason.TheVariants.NotRunning | Some e ↦ None ]) None
+        running : (o : Option EngineView) → o ≡ Some e → ◌≡◌ {A = Option Rattle.proof_deeds.specs.raft_schedule.declared.event.SkipReason.SkipReason} (elim o [ None ↦ Some Rattle.proof_deeds.specs.raft_schedule.declared.event.SkipReason.TheVariants.NotRunning | Some e ↦ None ]) None
         running None e = cc
         running (Some e) z = refl
 

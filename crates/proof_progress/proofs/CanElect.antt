@@ -3,27 +3,27 @@ use Rattle.std.proofs.Common.{ℕ, suc, ◌+◌, ◌*◌, ◌≡◌, ◌≤◌, 
 use Rattle.std.specs.Prelude.{if◌then◌else◌, is_some}
 use Rattle.std.specs.List.{AllByRecursion}
 use Rattle.std.specs.Ordering.{is_eq, nat_cmp}
-use Rattle.raft_state.specs.Log.{last}
-use Rattle.raft_state.specs.Members.{is_voter, voter_ids}
-use Rattle.raft_progress.specs.Quorum.{is_quorum}
-use Rattle.raft_progress.specs.Table.{rows_of}
-use Rattle.raft_proposer.specs.Candidate.{grant_by}
-use Rattle.raft_store.specs.declared.entry.Entry.{Entry}
-use Rattle.raft_store.specs.Types.{EngineView, WorldLeader}
-use Rattle.raft_schedule.specs.declared.event.Event.{Event}
-use Rattle.raft_schedule.specs.declared.event.SkipReason.{SkipReason}
-use Rattle.raft_schedule.specs.declared.event.SkipReason.TheVariants.{HasLeader, NotRunning, NotVoter}
-use Rattle.raft_node.specs.declared.act.Act.TheVariants.{Elect}
-use Rattle.raft_calls.specs.declared.elections.Candidates.TheVariants.{Voters}
-use Rattle.raft_node.specs.declared.given.Given.{Given}
-use Rattle.raft_calls.specs.declared.message.Body.TheVariants as body
-use Rattle.raft_calls.specs.declared.message.Message.{Message}
-use Rattle.raft_calls.specs.Elections.{elected, skip_elect}
-use Rattle.raft_node.specs.Events.{happens, message_at}
-use Rattle.raft_node.specs.Execute.{others, sending, to_each}
-use Rattle.raft_node.specs.Net.{Net, Records}
-use Rattle.raft_node.specs.Runs.{History, run, start, whole_logs, with_event, world_after}
-use Rattle.raft_node.specs.Work.{weight}
+use Rattle.proof_deeds.specs.raft_state.Log.{last}
+use Rattle.proof_deeds.specs.raft_state.Members.{is_voter, voter_ids}
+use Rattle.proof_deeds.specs.raft_progress.Quorum.{is_quorum}
+use Rattle.proof_deeds.specs.raft_progress.Table.{rows_of}
+use Rattle.proof_deeds.specs.raft_proposer.Candidate.{grant_by}
+use Rattle.proof_deeds.specs.raft_store.declared.entry.Entry.{Entry}
+use Rattle.proof_deeds.specs.raft_store.Types.{EngineView, WorldLeader}
+use Rattle.proof_deeds.specs.raft_schedule.declared.event.Event.{Event}
+use Rattle.proof_deeds.specs.raft_schedule.declared.event.SkipReason.{SkipReason}
+use Rattle.proof_deeds.specs.raft_schedule.declared.event.SkipReason.TheVariants.{HasLeader, NotRunning, NotVoter}
+use Rattle.proof_deeds.specs.raft_node.declared.act.Act.TheVariants.{Elect}
+use Rattle.proof_deeds.specs.raft_calls.declared.elections.Candidates.TheVariants.{Voters}
+use Rattle.proof_deeds.specs.raft_node.declared.given.Given.{Given}
+use Rattle.proof_deeds.specs.raft_calls.declared.message.Body.TheVariants as body
+use Rattle.proof_deeds.specs.raft_calls.declared.message.Message.{Message}
+use Rattle.proof_deeds.specs.raft_calls.Elections.{elected, skip_elect}
+use Rattle.proof_deeds.specs.raft_node.Events.{happens, message_at}
+use Rattle.proof_deeds.specs.raft_node.Execute.{others, sending, to_each}
+use Rattle.proof_deeds.specs.raft_node.Net.{Net, Records}
+use Rattle.proof_deeds.specs.raft_node.Runs.{History, run, start, whole_logs, with_event, world_after}
+use Rattle.proof_deeds.specs.raft_node.Work.{weight}
 use Rattle.proof_progress.specs.Continuations.{goes_on, timeout}
 use Rattle.proof_progress.proofs.Beside.{Elected, beside_changed, beside_then}
 use Rattle.proof_progress.specs.Elections.{Apart, Listed, log_end}

@@ -7,25 +7,25 @@ use Rattle.std.specs.Ordering.{nat_cmp}
 use Rattle.std.proofs.lemmas.Bool.Decides.{nat_tests}
 use Rattle.std.proofs.lemmas.Bool.{cases_eq}
 use Rattle.std.proofs.lemmas.Cmp.{nat_cmp_total}
-use Rattle.raft_state.specs.declared.ids.LogId.{LogId}
-use Rattle.raft_state.specs.declared.state.RaftState.{RaftState}
-use Rattle.raft_state.specs.Invariants.{IsSoundState, first_index}
-use Rattle.raft_state.specs.Log.{at, last}
-use Rattle.raft_state.specs.LogLaws.{IsRun}
-use Rattle.raft_state.specs.Order.{next}
-use Rattle.raft_state.proofs.StateLaws.{log_next}
-use Rattle.raft_state.specs.Same.{nat_same}
-use Rattle.raft_progress_entry.specs.declared.entry.Inflight.{Inflight}
-use Rattle.raft_progress_entry.specs.declared.entry.Inflight.TheVariants as inflight
-use Rattle.raft_progress_entry.specs.declared.entry.LogIdRange.{LogIdRange}
-use Rattle.raft_progress_entry.specs.declared.entry.ProgressEntry.{ProgressEntry}
-use Rattle.raft_progress_entry.specs.Entry.{before, is_idle, next_send, send_end, send_start, sent}
-use Rattle.raft_store.specs.declared.entry.Entry.{Entry}
-use Rattle.raft_store.specs.Entries.{entry_meaning}
-use Rattle.raft_store.specs.Mirror.{Holds, keyed}
-use Rattle.raft_store.specs.Store.{between}
-use Rattle.raft_store.specs.Types.{WorldStore}
-use Rattle.raft_calls.specs.Feeds.{last_sent}
+use Rattle.proof_deeds.specs.raft_state.declared.ids.LogId.{LogId}
+use Rattle.proof_deeds.specs.raft_state.declared.state.RaftState.{RaftState}
+use Rattle.proof_deeds.specs.raft_state.Invariants.{IsSoundState, first_index}
+use Rattle.proof_deeds.specs.raft_state.Log.{at, last}
+use Rattle.proof_deeds.specs.raft_state.LogLaws.{IsRun}
+use Rattle.proof_deeds.specs.raft_state.Order.{next}
+use Rattle.proof_deeds.proofs.raft_state_proofs.StateLaws.{log_next}
+use Rattle.proof_deeds.specs.raft_state.Same.{nat_same}
+use Rattle.proof_deeds.specs.raft_progress_entry.declared.entry.Inflight.{Inflight}
+use Rattle.proof_deeds.specs.raft_progress_entry.declared.entry.Inflight.TheVariants as inflight
+use Rattle.proof_deeds.specs.raft_progress_entry.declared.entry.LogIdRange.{LogIdRange}
+use Rattle.proof_deeds.specs.raft_progress_entry.declared.entry.ProgressEntry.{ProgressEntry}
+use Rattle.proof_deeds.specs.raft_progress_entry.Entry.{before, is_idle, next_send, send_end, send_start, sent}
+use Rattle.proof_deeds.specs.raft_store.declared.entry.Entry.{Entry}
+use Rattle.proof_deeds.specs.raft_store.Entries.{entry_meaning}
+use Rattle.proof_deeds.specs.raft_store.Mirror.{Holds, keyed}
+use Rattle.proof_deeds.specs.raft_store.Store.{between}
+use Rattle.proof_deeds.specs.raft_store.Types.{WorldStore}
+use Rattle.proof_deeds.specs.raft_calls.Feeds.{last_sent}
 
 -- The range
 

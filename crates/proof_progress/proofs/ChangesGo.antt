@@ -7,21 +7,21 @@ use Rattle.std.specs.Ordering.{nat_cmp}
 use Rattle.std.proofs.Math.Nat.{mul-le-mul_right}
 use Rattle.std.proofs.lemmas.Bool.Decides.{nat_tests}
 use Rattle.std.proofs.lemmas.List.{length-append}
-use Rattle.raft_state.specs.declared.membership.Members.{Members}
-use Rattle.raft_state.specs.Members.{learner_ids, voter_ids}
-use Rattle.raft_state.specs.Sorted.{has_id}
-use Rattle.raft_state.proofs.LogLists.{each_filter}
-use Rattle.raft_state.proofs.Orders.{and_both}
-use Rattle.raft_progress.specs.Quorum.{is_quorum}
-use Rattle.raft_proposer.specs.Joint.{u64_max}
-use Rattle.raft_store.specs.declared.entry.Entry.{Entry}
-use Rattle.raft_store.specs.declared.entry.Value.{Value}
-use Rattle.raft_store.specs.Types.{EngineView}
-use Rattle.raft_schedule.specs.declared.event.Event.{Event}
-use Rattle.raft_node.specs.declared.given.Given.{Given}
-use Rattle.raft_node.specs.Net.{Net, NodeView, node_at}
-use Rattle.raft_node.specs.Runs.{world_after}
-use Rattle.raft_node.specs.WellFormed.{IsWellFormed}
+use Rattle.proof_deeds.specs.raft_state.declared.membership.Members.{Members}
+use Rattle.proof_deeds.specs.raft_state.Members.{learner_ids, voter_ids}
+use Rattle.proof_deeds.specs.raft_state.Sorted.{has_id}
+use Rattle.proof_deeds.proofs.raft_state_proofs.LogLists.{each_filter}
+use Rattle.proof_deeds.proofs.raft_state_proofs.Orders.{and_both}
+use Rattle.proof_deeds.specs.raft_progress.Quorum.{is_quorum}
+use Rattle.proof_deeds.specs.raft_proposer.Joint.{u64_max}
+use Rattle.proof_deeds.specs.raft_store.declared.entry.Entry.{Entry}
+use Rattle.proof_deeds.specs.raft_store.declared.entry.Value.{Value}
+use Rattle.proof_deeds.specs.raft_store.Types.{EngineView}
+use Rattle.proof_deeds.specs.raft_schedule.declared.event.Event.{Event}
+use Rattle.proof_deeds.specs.raft_node.declared.given.Given.{Given}
+use Rattle.proof_deeds.specs.raft_node.Net.{Net, NodeView, node_at}
+use Rattle.proof_deeds.specs.raft_node.Runs.{world_after}
+use Rattle.proof_deeds.specs.raft_node.WellFormed.{IsWellFormed}
 use Rattle.proof_progress.specs.Changes.{CanGoOnWith, ChangedCommit, HaveGoneOnWith}
 use Rattle.proof_progress.specs.Choices.{leads_by_store}
 use Rattle.proof_progress.specs.Continuations.{At}

@@ -7,17 +7,17 @@ use Rattle.std.specs.Ordering.{is_eq, is_le, is_lt, nat_cmp}
 use Rattle.std.proofs.lemmas.Bool.Decides.{nat_tests}
 use Rattle.std.proofs.lemmas.Cmp.{nat_cmp_total}
 use Rattle.std.proofs.lemmas.List.Recursion.{is_count_by}
-use Rattle.raft_state.specs.declared.ids.LogId.{LogId}
-use Rattle.raft_state.specs.declared.membership.Members.{Members}
-use Rattle.raft_state.specs.Members.{is_voter, voter_ids}
-use Rattle.raft_state.specs.Order.{last_id_cmp}
-use Rattle.raft_state.specs.Sorted.{has_id}
-use Rattle.raft_state.proofs.Orders.{last_total, le_refl, le_trans, lt_is_le, lt_not_ge, lt_of_not_le, and_both, or_cases, or_left, or_right}
-use Rattle.raft_progress.specs.Quorum.{is_majority, is_quorum}
-use Rattle.raft_store.specs.declared.entry.Entry.{Entry}
-use Rattle.raft_store.specs.Types.{EngineView}
-use Rattle.raft_node.specs.declared.given.Given.{Given}
-use Rattle.raft_node.specs.Net.{Net, NodeView}
+use Rattle.proof_deeds.specs.raft_state.declared.ids.LogId.{LogId}
+use Rattle.proof_deeds.specs.raft_state.declared.membership.Members.{Members}
+use Rattle.proof_deeds.specs.raft_state.Members.{is_voter, voter_ids}
+use Rattle.proof_deeds.specs.raft_state.Order.{last_id_cmp}
+use Rattle.proof_deeds.specs.raft_state.Sorted.{has_id}
+use Rattle.proof_deeds.proofs.raft_state_proofs.Orders.{last_total, le_refl, le_trans, lt_is_le, lt_not_ge, lt_of_not_le, and_both, or_cases, or_left, or_right}
+use Rattle.proof_deeds.specs.raft_progress.Quorum.{is_majority, is_quorum}
+use Rattle.proof_deeds.specs.raft_store.declared.entry.Entry.{Entry}
+use Rattle.proof_deeds.specs.raft_store.Types.{EngineView}
+use Rattle.proof_deeds.specs.raft_node.declared.given.Given.{Given}
+use Rattle.proof_deeds.specs.raft_node.Net.{Net, NodeView}
 use Rattle.proof_progress.specs.Choices.{ChoicesExist, IsChoice, MayFollow, SomeLog, StartsWithGroups, engine_at_start, is_among}
 use Rattle.proof_progress.specs.Continuations.{At}
 use Rattle.proof_progress.specs.Elections.{Apart, Listed, log_end, members}

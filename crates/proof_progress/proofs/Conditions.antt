@@ -2,20 +2,20 @@
 use Rattle.std.specs.Prelude.{Bool, ℕ, ◌≡◌, ◌≢◌, ◌≤◌, ◌==◌, false, true, List, [], ◌∷◌, Option, None, Some}
 use Rattle.std.specs.declared.cmp.Ordering.TheVariants.{Greater}
 use Rattle.std.specs.Ordering.{is_eq, is_lt, nat_cmp}
-use Rattle.raft_state.specs.declared.ids.LeaderId.{LeaderId}
-use Rattle.raft_state.specs.declared.ids.LogId.{LogId}
-use Rattle.raft_state.specs.declared.state.ServerState.TheVariants.{Leader}
-use Rattle.raft_state.specs.Log.{last}
-use Rattle.raft_state.specs.Members.{contains, is_voter, voter_ids}
-use Rattle.raft_state.specs.Order.{last_id_cmp, next, vote_cmp}
-use Rattle.raft_progress.specs.Quorum.{is_quorum}
-use Rattle.raft_proposer.specs.Candidate.{grant_by, is_granted}
-use Rattle.raft_proposer.specs.Joint.{u64_max}
-use Rattle.raft_steps.specs.Requests.{is_leased}
-use Rattle.raft_store.specs.declared.entry.Entry.{Entry}
-use Rattle.raft_store.specs.Types.{EngineView}
-use Rattle.raft_node.specs.Execute.{others}
-use Rattle.raft_node.specs.Net.{Net, NodeView}
+use Rattle.proof_deeds.specs.raft_state.declared.ids.LeaderId.{LeaderId}
+use Rattle.proof_deeds.specs.raft_state.declared.ids.LogId.{LogId}
+use Rattle.proof_deeds.specs.raft_state.declared.state.ServerState.TheVariants.{Leader}
+use Rattle.proof_deeds.specs.raft_state.Log.{last}
+use Rattle.proof_deeds.specs.raft_state.Members.{contains, is_voter, voter_ids}
+use Rattle.proof_deeds.specs.raft_state.Order.{last_id_cmp, next, vote_cmp}
+use Rattle.proof_deeds.specs.raft_progress.Quorum.{is_quorum}
+use Rattle.proof_deeds.specs.raft_proposer.Candidate.{grant_by, is_granted}
+use Rattle.proof_deeds.specs.raft_proposer.Joint.{u64_max}
+use Rattle.proof_deeds.specs.raft_steps.Requests.{is_leased}
+use Rattle.proof_deeds.specs.raft_store.declared.entry.Entry.{Entry}
+use Rattle.proof_deeds.specs.raft_store.Types.{EngineView}
+use Rattle.proof_deeds.specs.raft_node.Execute.{others}
+use Rattle.proof_deeds.specs.raft_node.Net.{Net, NodeView}
 use Rattle.proof_progress.specs.Continuations.{At}
 use Rattle.proof_progress.specs.Elections.{Listed, asked_id, pending}
 use Rattle.proof_progress.proofs.Images.{standing}

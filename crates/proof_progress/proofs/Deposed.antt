@@ -8,54 +8,54 @@ use Rattle.std.specs.declared.cmp.Ordering.{Ordering}
 use Rattle.std.specs.declared.cmp.Ordering.TheVariants.{Equal, Greater, Less}
 use Rattle.std.specs.Ordering.{bool_cmp, is_eq, is_gt, nat_cmp, ordering_then}
 use Rattle.std.proofs.lemmas.Cmp.{nat_cmp_total}
-use Rattle.raft_state.specs.declared.ids.LogId.{LogId}
-use Rattle.raft_state.specs.declared.ids.Vote.{Vote}
-use Rattle.raft_state.specs.declared.policy.RejectAppendEntries.{RejectAppendEntries}
-use Rattle.raft_state.specs.declared.policy.RejectAppendEntries.TheVariants as reject
-use Rattle.raft_state.specs.declared.state.ServerState.{ServerState}
-use Rattle.raft_state.specs.declared.state.ServerState.TheVariants.{Candidate, Follower, Leader, Learner}
-use Rattle.raft_state.specs.Log.{last}
-use Rattle.raft_state.specs.Order.{last_id_cmp, leader_id_cmp, vote_cmp}
-use Rattle.raft_state.proofs.Orders.{last_total}
-use Rattle.raft_error.specs.declared.error.EngineError.{EngineError}
-use Rattle.raft_error.specs.declared.error.EngineError.TheVariants.{CounterEnd, IndexEnd, OwnVote, Spent, VoteNotCommitted}
-use Rattle.raft_error.specs.Number.{first_refusal, number_of}
-use Rattle.raft_command.specs.declared.command.Command.TheVariants.{Respond, SaveVote}
-use Rattle.raft_command.specs.declared.message.AppendEntriesResponse.{AppendEntriesResponse}
-use Rattle.raft_command.specs.declared.message.AppendEntriesResponse.TheVariants.{HigherVote}
-use Rattle.raft_command.specs.declared.replication.ReplicationSessionId.{ReplicationSessionId}
-use Rattle.raft_command.specs.declared.respond.Respond.TheVariants as respond
-use Rattle.raft_command.specs.Message.{append_response}
-use Rattle.raft_steps.specs.Engine.{as_uncommitted}
-use Rattle.raft_steps.specs.InstallRefusals.{refusals_of_install}
-use Rattle.raft_steps.specs.Installs.{handle_install_full_snapshot}
-use Rattle.raft_steps.specs.Parts.{on_core}
-use Rattle.raft_steps.specs.Refusals.{is_counter_end, refusals_of_update_vote}
-use Rattle.raft_steps.specs.RequestRefusals.{refusals_of_append, refusals_of_request}
-use Rattle.raft_steps.specs.Requests.{append_answer, append_entries, handle_append_entries, replied}
-use Rattle.raft_steps.specs.VoteHandler.{rejects_vote, update_vote}
-use Rattle.raft_store.specs.declared.entry.Entry.{Entry}
-use Rattle.raft_store.specs.Entries.{entry_meaning}
-use Rattle.raft_store.specs.Types.{EngineView, WorldCommand, WorldMachine, WorldSnapshot}
-use Rattle.raft_schedule.specs.declared.event.SkipReason.{SkipReason}
-use Rattle.raft_schedule.specs.declared.event.SkipReason.TheVariants.{NotRunning, StaleSession}
-use Rattle.raft_node.specs.declared.act.Act.TheVariants.{Take}
-use Rattle.raft_node.specs.declared.act.Aim.{Aim}
-use Rattle.raft_node.specs.declared.given.Given.{Given}
-use Rattle.raft_calls.specs.declared.message.Body.{Body}
-use Rattle.raft_calls.specs.declared.message.Body.TheVariants as body
-use Rattle.raft_calls.specs.declared.message.Message.{Message}
-use Rattle.raft_calls.specs.declared.message.Origin.{Origin}
-use Rattle.raft_node.specs.declared.node.Turn.{Turn}
-use Rattle.raft_calls.specs.Deliveries.{appended, deliver as delivered, reply_token, take_append, take_append_reply, take_commit, take_higher_vote, take_result, take_snapshot, with_machine, leads_in, same_session, skip_delivery, skip_reply, session_of}
-use Rattle.raft_node.specs.Events.{happens, message_at}
-use Rattle.raft_calls.specs.Engines.{WorldRespond}
-use Rattle.raft_calls.specs.Feeds.{last_sent}
-use Rattle.raft_node.specs.Execute.{replies, sending}
-use Rattle.raft_node.specs.Net.{Net, NodeView, Records}
-use Rattle.raft_node.specs.Runs.{whole_logs}
-use Rattle.raft_node.specs.Work.{weight, worked}
-use Rattle.raft_node.proofs.Worked.{worked-idle, worked-step}
+use Rattle.proof_deeds.specs.raft_state.declared.ids.LogId.{LogId}
+use Rattle.proof_deeds.specs.raft_state.declared.ids.Vote.{Vote}
+use Rattle.proof_deeds.specs.raft_state.declared.policy.RejectAppendEntries.{RejectAppendEntries}
+use Rattle.proof_deeds.specs.raft_state.declared.policy.RejectAppendEntries.TheVariants as reject
+use Rattle.proof_deeds.specs.raft_state.declared.state.ServerState.{ServerState}
+use Rattle.proof_deeds.specs.raft_state.declared.state.ServerState.TheVariants.{Candidate, Follower, Leader, Learner}
+use Rattle.proof_deeds.specs.raft_state.Log.{last}
+use Rattle.proof_deeds.specs.raft_state.Order.{last_id_cmp, leader_id_cmp, vote_cmp}
+use Rattle.proof_deeds.proofs.raft_state_proofs.Orders.{last_total}
+use Rattle.proof_deeds.specs.raft_error.declared.error.EngineError.{EngineError}
+use Rattle.proof_deeds.specs.raft_error.declared.error.EngineError.TheVariants.{CounterEnd, IndexEnd, OwnVote, Spent, VoteNotCommitted}
+use Rattle.proof_deeds.specs.raft_error.Number.{first_refusal, number_of}
+use Rattle.proof_deeds.specs.raft_command.declared.command.Command.TheVariants.{Respond, SaveVote}
+use Rattle.proof_deeds.specs.raft_command.declared.message.AppendEntriesResponse.{AppendEntriesResponse}
+use Rattle.proof_deeds.specs.raft_command.declared.message.AppendEntriesResponse.TheVariants.{HigherVote}
+use Rattle.proof_deeds.specs.raft_command.declared.replication.ReplicationSessionId.{ReplicationSessionId}
+use Rattle.proof_deeds.specs.raft_command.declared.respond.Respond.TheVariants as respond
+use Rattle.proof_deeds.specs.raft_command.Message.{append_response}
+use Rattle.proof_deeds.specs.raft_steps.Engine.{as_uncommitted}
+use Rattle.proof_deeds.specs.raft_steps.InstallRefusals.{refusals_of_install}
+use Rattle.proof_deeds.specs.raft_steps.Installs.{handle_install_full_snapshot}
+use Rattle.proof_deeds.specs.raft_steps.Parts.{on_core}
+use Rattle.proof_deeds.specs.raft_steps.Refusals.{is_counter_end, refusals_of_update_vote}
+use Rattle.proof_deeds.specs.raft_steps.RequestRefusals.{refusals_of_append, refusals_of_request}
+use Rattle.proof_deeds.specs.raft_steps.Requests.{append_answer, append_entries, handle_append_entries, replied}
+use Rattle.proof_deeds.specs.raft_steps.VoteHandler.{rejects_vote, update_vote}
+use Rattle.proof_deeds.specs.raft_store.declared.entry.Entry.{Entry}
+use Rattle.proof_deeds.specs.raft_store.Entries.{entry_meaning}
+use Rattle.proof_deeds.specs.raft_store.Types.{EngineView, WorldCommand, WorldMachine, WorldSnapshot}
+use Rattle.proof_deeds.specs.raft_schedule.declared.event.SkipReason.{SkipReason}
+use Rattle.proof_deeds.specs.raft_schedule.declared.event.SkipReason.TheVariants.{NotRunning, StaleSession}
+use Rattle.proof_deeds.specs.raft_node.declared.act.Act.TheVariants.{Take}
+use Rattle.proof_deeds.specs.raft_node.declared.act.Aim.{Aim}
+use Rattle.proof_deeds.specs.raft_node.declared.given.Given.{Given}
+use Rattle.proof_deeds.specs.raft_calls.declared.message.Body.{Body}
+use Rattle.proof_deeds.specs.raft_calls.declared.message.Body.TheVariants as body
+use Rattle.proof_deeds.specs.raft_calls.declared.message.Message.{Message}
+use Rattle.proof_deeds.specs.raft_calls.declared.message.Origin.{Origin}
+use Rattle.proof_deeds.specs.raft_node.declared.node.Turn.{Turn}
+use Rattle.proof_deeds.specs.raft_calls.Deliveries.{appended, deliver as delivered, reply_token, take_append, take_append_reply, take_commit, take_higher_vote, take_result, take_snapshot, with_machine, leads_in, same_session, skip_delivery, skip_reply, session_of}
+use Rattle.proof_deeds.specs.raft_node.Events.{happens, message_at}
+use Rattle.proof_deeds.specs.raft_calls.Engines.{WorldRespond}
+use Rattle.proof_deeds.specs.raft_calls.Feeds.{last_sent}
+use Rattle.proof_deeds.specs.raft_node.Execute.{replies, sending}
+use Rattle.proof_deeds.specs.raft_node.Net.{Net, NodeView, Records}
+use Rattle.proof_deeds.specs.raft_node.Runs.{whole_logs}
+use Rattle.proof_deeds.specs.raft_node.Work.{weight, worked}
+use Rattle.proof_deeds.proofs.raft_node_proofs.Worked.{worked-idle, worked-step}
 use Rattle.proof_progress.specs.Continuations.{At, deliver}
 use Rattle.proof_progress.specs.Elections.{pending}
 use Rattle.proof_progress.proofs.Campaigns.{at_id, message_last}

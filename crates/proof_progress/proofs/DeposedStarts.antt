@@ -5,34 +5,34 @@ use Rattle.std.specs.List.{AllByRecursion}
 use Rattle.std.specs.Option.{option_map}
 use Rattle.std.specs.Ordering.{is_eq, nat_cmp}
 use Rattle.std.proofs.lemmas.Bool.Decides.{nat_tests}
-use Rattle.raft_state.specs.declared.ids.LogId.{LogId}
-use Rattle.raft_state.specs.declared.ids.Vote.{Vote}
-use Rattle.raft_state.specs.declared.membership.StoredMembership.{StoredMembership}
-use Rattle.raft_state.specs.Order.{vote_cmp}
-use Rattle.raft_state.proofs.LogLists.{each_append}
-use Rattle.raft_progress_entry.specs.declared.entry.Inflight.{Inflight}
-use Rattle.raft_progress_entry.specs.declared.entry.Inflight.TheVariants as inflight
-use Rattle.raft_error.specs.declared.error.EngineError.{EngineError}
-use Rattle.raft_command.specs.declared.command.Command.TheVariants as command
-use Rattle.raft_command.specs.declared.replication.ReplicationSessionId.{ReplicationSessionId}
-use Rattle.raft_command.specs.declared.sm.CommandPayload.TheVariants as payload
-use Rattle.raft_command.specs.Queue.{popped}
-use Rattle.raft_steps.specs.Parts.{led_of, leading}
-use Rattle.raft_steps.specs.Refusals.{refusals_of_local_progress}
-use Rattle.raft_steps.specs.ReplicationHandler.{update_local_progress}
-use Rattle.raft_store.specs.declared.entry.Entry.{Entry}
-use Rattle.raft_store.specs.Types.{EngineView, WorldCandidate, WorldCommand, WorldLeader, WorldPayload, WorldStore}
-use Rattle.raft_calls.specs.declared.message.Body.{Body}
-use Rattle.raft_calls.specs.declared.message.Message.{Message}
-use Rattle.raft_node.specs.declared.node.Turn.{Turn}
-use Rattle.raft_node.specs.Events.{message_at}
-use Rattle.raft_node.specs.Execute.{exec, exec_payload, replicate_committed, replication, sending, to_each}
-use Rattle.raft_calls.specs.Feeds.{last_sent, WorldLed, asks_itself, called, feed, grant_own, hold_own}
-use Rattle.raft_calls.specs.Deliveries.{session_of}
-use Rattle.raft_node.specs.Runs.{whole_logs}
-use Rattle.raft_node.specs.Work.{Work, step_of, weight, work_step, worked}
-use Rattle.raft_calls.specs.Engines.{with_queue}
-use Rattle.raft_node.proofs.Worked.{worked-keeps, worked-step}
+use Rattle.proof_deeds.specs.raft_state.declared.ids.LogId.{LogId}
+use Rattle.proof_deeds.specs.raft_state.declared.ids.Vote.{Vote}
+use Rattle.proof_deeds.specs.raft_state.declared.membership.StoredMembership.{StoredMembership}
+use Rattle.proof_deeds.specs.raft_state.Order.{vote_cmp}
+use Rattle.proof_deeds.proofs.raft_state_proofs.LogLists.{each_append}
+use Rattle.proof_deeds.specs.raft_progress_entry.declared.entry.Inflight.{Inflight}
+use Rattle.proof_deeds.specs.raft_progress_entry.declared.entry.Inflight.TheVariants as inflight
+use Rattle.proof_deeds.specs.raft_error.declared.error.EngineError.{EngineError}
+use Rattle.proof_deeds.specs.raft_command.declared.command.Command.TheVariants as command
+use Rattle.proof_deeds.specs.raft_command.declared.replication.ReplicationSessionId.{ReplicationSessionId}
+use Rattle.proof_deeds.specs.raft_command.declared.sm.CommandPayload.TheVariants as payload
+use Rattle.proof_deeds.specs.raft_command.Queue.{popped}
+use Rattle.proof_deeds.specs.raft_steps.Parts.{led_of, leading}
+use Rattle.proof_deeds.specs.raft_steps.Refusals.{refusals_of_local_progress}
+use Rattle.proof_deeds.specs.raft_steps.ReplicationHandler.{update_local_progress}
+use Rattle.proof_deeds.specs.raft_store.declared.entry.Entry.{Entry}
+use Rattle.proof_deeds.specs.raft_store.Types.{EngineView, WorldCandidate, WorldCommand, WorldLeader, WorldPayload, WorldStore}
+use Rattle.proof_deeds.specs.raft_calls.declared.message.Body.{Body}
+use Rattle.proof_deeds.specs.raft_calls.declared.message.Message.{Message}
+use Rattle.proof_deeds.specs.raft_node.declared.node.Turn.{Turn}
+use Rattle.proof_deeds.specs.raft_node.Events.{message_at}
+use Rattle.proof_deeds.specs.raft_node.Execute.{exec, exec_payload, replicate_committed, replication, sending, to_each}
+use Rattle.proof_deeds.specs.raft_calls.Feeds.{last_sent, WorldLed, asks_itself, called, feed, grant_own, hold_own}
+use Rattle.proof_deeds.specs.raft_calls.Deliveries.{session_of}
+use Rattle.proof_deeds.specs.raft_node.Runs.{whole_logs}
+use Rattle.proof_deeds.specs.raft_node.Work.{Work, step_of, weight, work_step, worked}
+use Rattle.proof_deeds.specs.raft_calls.Engines.{with_queue}
+use Rattle.proof_deeds.proofs.raft_node_proofs.Worked.{worked-keeps, worked-step}
 use Rattle.proof_progress.specs.Choices.{AsksFirst, IsRequestTo}
 use Rattle.proof_progress.proofs.Campaigns.{message_last, message_stays}
 use Rattle.proof_progress.proofs.Deposed.{AsksIn}

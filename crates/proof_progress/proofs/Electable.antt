@@ -4,10 +4,10 @@ use Rattle.std.specs.List.{AllByRecursion}
 use Rattle.std.specs.Ordering.{is_eq, nat_cmp}
 use Rattle.std.proofs.lemmas.Bool.Decides.{nat_tests}
 use Rattle.std.proofs.Common.{arith}
-use Rattle.raft_store.specs.declared.entry.Entry.{Entry}
-use Rattle.raft_schedule.specs.declared.event.Event.{Event}
-use Rattle.raft_node.specs.declared.given.Given.{Given}
-use Rattle.raft_node.specs.Net.{Net}
+use Rattle.proof_deeds.specs.raft_store.declared.entry.Entry.{Entry}
+use Rattle.proof_deeds.specs.raft_schedule.declared.event.Event.{Event}
+use Rattle.proof_deeds.specs.raft_node.declared.given.Given.{Given}
+use Rattle.proof_deeds.specs.raft_node.Net.{Net}
 use Rattle.proof_progress.specs.Continuations.{LeadsIn, goes_on, timeout}
 use Rattle.proof_progress.specs.Elections.{Apart, CanBeElected, ElectableLead, WouldGrant, asked_id, members}
 use Rattle.proof_progress.specs.Plans.{votes_from, world_then}

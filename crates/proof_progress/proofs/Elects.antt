@@ -4,29 +4,29 @@ use Rattle.std.specs.Prelude.{◌==◌, if◌then◌else◌}
 use Rattle.std.specs.declared.cmp.Ordering.TheVariants.{Equal, Greater}
 use Rattle.std.specs.Ordering.{is_eq, is_gt, is_lt, nat_cmp}
 use Rattle.std.proofs.lemmas.Bool.Decides.{nat_tests}
-use Rattle.raft_state.specs.declared.ids.LeaderId.{LeaderId}
-use Rattle.raft_state.specs.declared.state.RaftState.{RaftState}
-use Rattle.raft_state.specs.declared.state.ServerState.{ServerState}
-use Rattle.raft_state.specs.declared.state.ServerState.TheVariants.{Learner, Follower, Candidate, Leader}
-use Rattle.raft_state.specs.Log.{last}
-use Rattle.raft_state.specs.Members.{contains, is_voter}
-use Rattle.raft_state.specs.Order.{vote_cmp}
-use Rattle.raft_state.specs.State.{is_leader, is_leading, server_state}
-use Rattle.raft_error.specs.declared.error.EngineError.{EngineError}
-use Rattle.raft_error.specs.Number.{first_refusal}
-use Rattle.raft_command.specs.declared.command.Command.TheVariants.{SaveVote, SendVote}
-use Rattle.raft_command.specs.declared.config.EngineConfig.{EngineConfig}
-use Rattle.raft_proposer.specs.Candidate.{candidate_of}
-use Rattle.raft_proposer.specs.Joint.{u64_max}
-use Rattle.raft_steps.specs.Engine.{elect}
-use Rattle.raft_steps.specs.Parts.{on_core, then_command, with_state}
-use Rattle.raft_steps.specs.Refusals.{refusals_of_elect}
-use Rattle.raft_steps.specs.ServerStateHandler.{role_commands, update_role}
-use Rattle.raft_steps.specs.VoteHandler.{become_following, become_leader, rejects_vote, take_vote, update_internal_server_state, update_vote}
-use Rattle.raft_store.specs.Entries.{entry_meaning}
-use Rattle.raft_store.specs.Types.{EngineView, WorldCommand, WorldLeader, WorldMachine}
-use Rattle.raft_calls.specs.Deliveries.{answered, with_machine}
-use Rattle.raft_calls.specs.Elections.{elected}
+use Rattle.proof_deeds.specs.raft_state.declared.ids.LeaderId.{LeaderId}
+use Rattle.proof_deeds.specs.raft_state.declared.state.RaftState.{RaftState}
+use Rattle.proof_deeds.specs.raft_state.declared.state.ServerState.{ServerState}
+use Rattle.proof_deeds.specs.raft_state.declared.state.ServerState.TheVariants.{Learner, Follower, Candidate, Leader}
+use Rattle.proof_deeds.specs.raft_state.Log.{last}
+use Rattle.proof_deeds.specs.raft_state.Members.{contains, is_voter}
+use Rattle.proof_deeds.specs.raft_state.Order.{vote_cmp}
+use Rattle.proof_deeds.specs.raft_state.State.{is_leader, is_leading, server_state}
+use Rattle.proof_deeds.specs.raft_error.declared.error.EngineError.{EngineError}
+use Rattle.proof_deeds.specs.raft_error.Number.{first_refusal}
+use Rattle.proof_deeds.specs.raft_command.declared.command.Command.TheVariants.{SaveVote, SendVote}
+use Rattle.proof_deeds.specs.raft_command.declared.config.EngineConfig.{EngineConfig}
+use Rattle.proof_deeds.specs.raft_proposer.Candidate.{candidate_of}
+use Rattle.proof_deeds.specs.raft_proposer.Joint.{u64_max}
+use Rattle.proof_deeds.specs.raft_steps.Engine.{elect}
+use Rattle.proof_deeds.specs.raft_steps.Parts.{on_core, then_command, with_state}
+use Rattle.proof_deeds.specs.raft_steps.Refusals.{refusals_of_elect}
+use Rattle.proof_deeds.specs.raft_steps.ServerStateHandler.{role_commands, update_role}
+use Rattle.proof_deeds.specs.raft_steps.VoteHandler.{become_following, become_leader, rejects_vote, take_vote, update_internal_server_state, update_vote}
+use Rattle.proof_deeds.specs.raft_store.Entries.{entry_meaning}
+use Rattle.proof_deeds.specs.raft_store.Types.{EngineView, WorldCommand, WorldLeader, WorldMachine}
+use Rattle.proof_deeds.specs.raft_calls.Deliveries.{answered, with_machine}
+use Rattle.proof_deeds.specs.raft_calls.Elections.{elected}
 use Rattle.proof_deeds.proofs.Numbers.{later_vote}
 use Rattle.proof_progress.specs.Elections.{pending}
 use Rattle.proof_progress.proofs.Conditions.{EngineStands}

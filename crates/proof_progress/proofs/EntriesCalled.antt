@@ -3,64 +3,64 @@ use Rattle.std.specs.Prelude.{Bool, Err, List, None, Ok, Option, Result, Some, [
 use Rattle.std.specs.Ordering.{is_gt, nat_cmp}
 use Rattle.std.specs.Result.{is_ok}
 use Rattle.std.proofs.Common.{ap, subst, sym, ◌∙◌}
-use Rattle.raft_state.specs.declared.ids.LogId.{LogId}
-use Rattle.raft_state.specs.declared.ids.Vote.{Vote}
-use Rattle.raft_state.specs.declared.ids.LeaderId.{LeaderId}
-use Rattle.raft_state.specs.Order.{next, vote_cmp}
-use Rattle.raft_error.specs.declared.error.EngineError.{EngineError}
-use Rattle.raft_error.specs.Number.{number_of}
-use Rattle.raft_command.specs.declared.config.EngineConfig.{EngineConfig}
-use Rattle.raft_command.specs.declared.message.AppendEntriesResponse.{AppendEntriesResponse}
-use Rattle.raft_command.specs.declared.message.AppendEntriesResponse.TheVariants.{Conflict, HigherVote, PartialSuccess, Success}
-use Rattle.raft_command.specs.declared.message.VoteRequest.{VoteRequest}
-use Rattle.raft_command.specs.declared.replication.ReplicationResult.{ReplicationResult}
-use Rattle.raft_command.specs.declared.replication.RequestId.{RequestId}
-use Rattle.raft_proposer.specs.Leader.{numbered}
-use Rattle.raft_steps.specs.Engine.{as_uncommitted, elect, initialize}
-use Rattle.raft_steps.specs.Installs.{handle_install_full_snapshot}
-use Rattle.raft_steps.specs.LeaderHandler.{leader_append_entries}
-use Rattle.raft_steps.specs.Parts.{leading, led_of, on_core}
-use Rattle.raft_steps.specs.Refusals.{refusals_of_counter_led, refusals_of_elect, refusals_of_initialize, refusals_of_propose, refusals_of_spent, refusals_of_trigger_snapshot, refusals_of_update_vote, refusals_of_vote_resp}
-use Rattle.raft_steps.specs.InstallRefusals.{refusals_of_install}
-use Rattle.raft_steps.specs.Replies.{update_progress}
-use Rattle.raft_steps.specs.ReplicationHandler.{initiate_replication}
-use Rattle.raft_steps.specs.ReplyRefusals.{refusals_of_progress}
-use Rattle.raft_steps.specs.RequestRefusals.{refusals_of_append, refusals_of_commit, refusals_of_vote_req}
-use Rattle.raft_steps.specs.Requests.{append_answer, handle_commit_entries, handle_vote_req, vote_req_answer}
-use Rattle.raft_steps.specs.SnapshotCalls.{finish_building_snapshot, trigger_purge_log}
-use Rattle.raft_steps.specs.SnapshotHandler.{trigger_snapshot}
-use Rattle.raft_steps.specs.Starts.{leader_step_down, refusals_of_startup, refusals_of_step_down, startup}
-use Rattle.raft_steps.specs.VoteHandler.{update_vote}
-use Rattle.raft_steps.proofs.Allowed.{initiate_only, leader_append_only, only_then}
-use Rattle.raft_store.specs.declared.entry.Entry.{Entry}
-use Rattle.raft_store.specs.declared.entry.Value.{Value}
-use Rattle.raft_store.specs.Built.{meta_of}
-use Rattle.raft_store.specs.Entries.{entry_meaning}
-use Rattle.raft_store.specs.Types.{EngineView, WorldLeader}
-use Rattle.raft_schedule.specs.declared.event.Start.{Start}
-use Rattle.raft_schedule.specs.declared.event.Start.TheVariants as starts
-use Rattle.raft_node.specs.declared.act.Act.{Act}
-use Rattle.raft_node.specs.declared.act.Act.TheVariants.{ChangeLearners, ChangeMembership, Elect, Fail, FinishSnapshot, Initialize, Propose, Read, Restart, SendHeartbeat, StepDown, Stop, Take, TriggerPurge, TriggerSnapshot}
-use Rattle.raft_node.specs.declared.given.Given.{Given}
-use Rattle.raft_calls.specs.declared.message.Body.{Body}
-use Rattle.raft_calls.specs.declared.message.Origin.{Origin}
-use Rattle.raft_calls.specs.Deliveries.{answered, appended, deliver, led_call, progressed, reply_token, take_append, take_append_reply, take_commit, take_conflict, take_higher_vote, take_result, unled_number, vote_replied, vote_requested, with_machine}
-use Rattle.raft_node.specs.Events.{calls_at, on_engine}
-use Rattle.raft_calls.specs.Elections.{elected, first_entry, initialized}
-use Rattle.raft_calls.specs.Feeds.{WorldLed}
-use Rattle.raft_calls.specs.LeaderCalls.{failed, heartbeats_sent, inflight_to, proposed, read_asked, read_refusal, request_of, stepped_down, value_entry}
-use Rattle.raft_calls.specs.Memberships.{groups_in, learners_changed, members_with, membership_changed, membership_entry}
-use Rattle.raft_node.specs.Net.{NodeView}
-use Rattle.raft_node.specs.Snapshots.{finish_snapshot, kept_built}
-use Rattle.raft_calls.specs.Snapshots.{purge_triggered, snapshot_triggered, told_built}
-use Rattle.raft_calls.specs.Starts.{begun_anew, resumed}
-use Rattle.raft_node.specs.Starts.{engine_on, restart, started_with, unsaved}
-use Rattle.raft_calls.proofs.StartReady.{begun_one}
-use Rattle.raft_calls.proofs.Falls.{WorldCore}
+use Rattle.proof_deeds.specs.raft_state.declared.ids.LogId.{LogId}
+use Rattle.proof_deeds.specs.raft_state.declared.ids.Vote.{Vote}
+use Rattle.proof_deeds.specs.raft_state.declared.ids.LeaderId.{LeaderId}
+use Rattle.proof_deeds.specs.raft_state.Order.{next, vote_cmp}
+use Rattle.proof_deeds.specs.raft_error.declared.error.EngineError.{EngineError}
+use Rattle.proof_deeds.specs.raft_error.Number.{number_of}
+use Rattle.proof_deeds.specs.raft_command.declared.config.EngineConfig.{EngineConfig}
+use Rattle.proof_deeds.specs.raft_command.declared.message.AppendEntriesResponse.{AppendEntriesResponse}
+use Rattle.proof_deeds.specs.raft_command.declared.message.AppendEntriesResponse.TheVariants.{Conflict, HigherVote, PartialSuccess, Success}
+use Rattle.proof_deeds.specs.raft_command.declared.message.VoteRequest.{VoteRequest}
+use Rattle.proof_deeds.specs.raft_command.declared.replication.ReplicationResult.{ReplicationResult}
+use Rattle.proof_deeds.specs.raft_command.declared.replication.RequestId.{RequestId}
+use Rattle.proof_deeds.specs.raft_proposer.Leader.{numbered}
+use Rattle.proof_deeds.specs.raft_steps.Engine.{as_uncommitted, elect, initialize}
+use Rattle.proof_deeds.specs.raft_steps.Installs.{handle_install_full_snapshot}
+use Rattle.proof_deeds.specs.raft_steps.LeaderHandler.{leader_append_entries}
+use Rattle.proof_deeds.specs.raft_steps.Parts.{leading, led_of, on_core}
+use Rattle.proof_deeds.specs.raft_steps.Refusals.{refusals_of_counter_led, refusals_of_elect, refusals_of_initialize, refusals_of_propose, refusals_of_spent, refusals_of_trigger_snapshot, refusals_of_update_vote, refusals_of_vote_resp}
+use Rattle.proof_deeds.specs.raft_steps.InstallRefusals.{refusals_of_install}
+use Rattle.proof_deeds.specs.raft_steps.Replies.{update_progress}
+use Rattle.proof_deeds.specs.raft_steps.ReplicationHandler.{initiate_replication}
+use Rattle.proof_deeds.specs.raft_steps.ReplyRefusals.{refusals_of_progress}
+use Rattle.proof_deeds.specs.raft_steps.RequestRefusals.{refusals_of_append, refusals_of_commit, refusals_of_vote_req}
+use Rattle.proof_deeds.specs.raft_steps.Requests.{append_answer, handle_commit_entries, handle_vote_req, vote_req_answer}
+use Rattle.proof_deeds.specs.raft_steps.SnapshotCalls.{finish_building_snapshot, trigger_purge_log}
+use Rattle.proof_deeds.specs.raft_steps.SnapshotHandler.{trigger_snapshot}
+use Rattle.proof_deeds.specs.raft_steps.Starts.{leader_step_down, refusals_of_startup, refusals_of_step_down, startup}
+use Rattle.proof_deeds.specs.raft_steps.VoteHandler.{update_vote}
+use Rattle.proof_deeds.proofs.raft_steps_proofs.Allowed.{initiate_only, leader_append_only, only_then}
+use Rattle.proof_deeds.specs.raft_store.declared.entry.Entry.{Entry}
+use Rattle.proof_deeds.specs.raft_store.declared.entry.Value.{Value}
+use Rattle.proof_deeds.specs.raft_store.Built.{meta_of}
+use Rattle.proof_deeds.specs.raft_store.Entries.{entry_meaning}
+use Rattle.proof_deeds.specs.raft_store.Types.{EngineView, WorldLeader}
+use Rattle.proof_deeds.specs.raft_schedule.declared.event.Start.{Start}
+use Rattle.proof_deeds.specs.raft_schedule.declared.event.Start.TheVariants as starts
+use Rattle.proof_deeds.specs.raft_node.declared.act.Act.{Act}
+use Rattle.proof_deeds.specs.raft_node.declared.act.Act.TheVariants.{ChangeLearners, ChangeMembership, Elect, Fail, FinishSnapshot, Initialize, Propose, Read, Restart, SendHeartbeat, StepDown, Stop, Take, TriggerPurge, TriggerSnapshot}
+use Rattle.proof_deeds.specs.raft_node.declared.given.Given.{Given}
+use Rattle.proof_deeds.specs.raft_calls.declared.message.Body.{Body}
+use Rattle.proof_deeds.specs.raft_calls.declared.message.Origin.{Origin}
+use Rattle.proof_deeds.specs.raft_calls.Deliveries.{answered, appended, deliver, led_call, progressed, reply_token, take_append, take_append_reply, take_commit, take_conflict, take_higher_vote, take_result, unled_number, vote_replied, vote_requested, with_machine}
+use Rattle.proof_deeds.specs.raft_node.Events.{calls_at, on_engine}
+use Rattle.proof_deeds.specs.raft_calls.Elections.{elected, first_entry, initialized}
+use Rattle.proof_deeds.specs.raft_calls.Feeds.{WorldLed}
+use Rattle.proof_deeds.specs.raft_calls.LeaderCalls.{failed, heartbeats_sent, inflight_to, proposed, read_asked, read_refusal, request_of, stepped_down, value_entry}
+use Rattle.proof_deeds.specs.raft_calls.Memberships.{groups_in, learners_changed, members_with, membership_changed, membership_entry}
+use Rattle.proof_deeds.specs.raft_node.Net.{NodeView}
+use Rattle.proof_deeds.specs.raft_node.Snapshots.{finish_snapshot, kept_built}
+use Rattle.proof_deeds.specs.raft_calls.Snapshots.{purge_triggered, snapshot_triggered, told_built}
+use Rattle.proof_deeds.specs.raft_calls.Starts.{begun_anew, resumed}
+use Rattle.proof_deeds.specs.raft_node.Starts.{engine_on, restart, started_with, unsaved}
+use Rattle.proof_deeds.proofs.raft_calls_proofs.StartReady.{begun_one}
+use Rattle.proof_deeds.proofs.raft_calls_proofs.Falls.{WorldCore}
 use Rattle.std.specs.List.{AllByRecursion}
 use Rattle.proof_progress.proofs.EntriesQueued.{AllowsRequests, BodyOf, Brings, IsCommon, Only, brings_all, brings_leading, commit-only, elect-only, finish-only, handle_append-only, handle_install-only, here, initialize-only, progress-only, respond_only, startup-only, step_down-only, trigger_purge-only, trigger_snapshot-only, update_vote-only, vote_req-only, vote_resp-only}
-use Rattle.raft_command.specs.declared.respond.Respond.TheVariants as respond
-use Rattle.raft_calls.specs.declared.message.Body.TheVariants as body
+use Rattle.proof_deeds.specs.raft_command.declared.respond.Respond.TheVariants as respond
+use Rattle.proof_deeds.specs.raft_calls.declared.message.Body.TheVariants as body
 
 -- an engine's queue is empty, if it runs
 abbrev pub Rested : NodeView → Type 0

@@ -5,40 +5,40 @@ use Rattle.std.specs.List.{AllByRecursion}
 use Rattle.std.specs.Option.{option_map}
 use Rattle.std.specs.Ordering.{nat_cmp}
 use Rattle.std.proofs.lemmas.List.Elements.{All-contains, All-contains_itself, recursion_from_All}
-use Rattle.raft_state.specs.declared.ids.LogId.{LogId}
-use Rattle.raft_state.specs.Order.{next}
-use Rattle.raft_state.proofs.LogLists.{each_append}
-use Rattle.raft_store.specs.declared.entry.Entry.{Entry}
-use Rattle.raft_store.specs.Built.{meta_of}
-use Rattle.raft_store.specs.Entries.{entry_meaning}
-use Rattle.raft_store.specs.Restart.{forgotten, is_outrun, restarted, settled, settled_by, start_committed}
-use Rattle.raft_store.specs.Store.{whole}
-use Rattle.raft_store.specs.Types.{EngineView, WorldLeader, WorldStore}
-use Rattle.raft_schedule.specs.declared.event.Event.{Event}
-use Rattle.raft_schedule.specs.declared.event.EventKind.{EventKind}
-use Rattle.raft_schedule.specs.declared.event.EventKind.TheVariants as kinds
-use Rattle.raft_schedule.specs.declared.event.Outcome.{Outcome}
-use Rattle.raft_schedule.specs.declared.event.Outcome.TheVariants.{Skipped}
-use Rattle.raft_schedule.specs.declared.event.SkipReason.{SkipReason}
-use Rattle.raft_schedule.specs.declared.event.SkipReason.TheVariants.{NoMessage, NotRunning}
-use Rattle.raft_schedule.specs.declared.event.Start.TheVariants.{Plain, Saved, Bare}
-use Rattle.raft_node.specs.declared.act.Act.{Act}
-use Rattle.raft_node.specs.declared.act.Act.TheVariants.{ChangeLearners, ChangeMembership, Elect, Fail, FinishSnapshot, Initialize, Propose, Read, Restart, SendHeartbeat, StepDown, Stop, Take, TriggerPurge, TriggerSnapshot}
-use Rattle.raft_node.specs.declared.act.Aim.{Aim}
-use Rattle.raft_node.specs.declared.given.Given.{Given}
-use Rattle.raft_calls.specs.declared.elections.Candidates.TheVariants.{AllMembers, Voters}
-use Rattle.raft_calls.specs.declared.message.Message.{Message}
-use Rattle.raft_node.specs.Events.{Scene, called_at, calls, moment_of, aim_of, at_node, at_place, calls_at, finish, happens, message_at, on_engine, place_of, played, skip_reason, turn_of, work_of}
-use Rattle.raft_calls.specs.Elections.{first_entry}
-use Rattle.raft_calls.specs.Memberships.{groups_in, members_with, membership_entry}
-use Rattle.raft_node.specs.Net.{Net, NodeView, empty_net, new_node}
-use Rattle.raft_node.specs.Runs.{whole_logs, world_after}
-use Rattle.raft_node.specs.Snapshots.{finish_snapshot, kept_built}
-use Rattle.raft_calls.specs.Snapshots.{told_built}
-use Rattle.raft_node.specs.WellFormed.{IsWellFormed}
-use Rattle.raft_node.specs.Work.{weight, worked}
-use Rattle.raft_node.specs.Held.{IsAtRest}
-use Rattle.raft_calls.specs.Held.{IsRestingWhereRunning}
+use Rattle.proof_deeds.specs.raft_state.declared.ids.LogId.{LogId}
+use Rattle.proof_deeds.specs.raft_state.Order.{next}
+use Rattle.proof_deeds.proofs.raft_state_proofs.LogLists.{each_append}
+use Rattle.proof_deeds.specs.raft_store.declared.entry.Entry.{Entry}
+use Rattle.proof_deeds.specs.raft_store.Built.{meta_of}
+use Rattle.proof_deeds.specs.raft_store.Entries.{entry_meaning}
+use Rattle.proof_deeds.specs.raft_store.Restart.{forgotten, is_outrun, restarted, settled, settled_by, start_committed}
+use Rattle.proof_deeds.specs.raft_store.Store.{whole}
+use Rattle.proof_deeds.specs.raft_store.Types.{EngineView, WorldLeader, WorldStore}
+use Rattle.proof_deeds.specs.raft_schedule.declared.event.Event.{Event}
+use Rattle.proof_deeds.specs.raft_schedule.declared.event.EventKind.{EventKind}
+use Rattle.proof_deeds.specs.raft_schedule.declared.event.EventKind.TheVariants as kinds
+use Rattle.proof_deeds.specs.raft_schedule.declared.event.Outcome.{Outcome}
+use Rattle.proof_deeds.specs.raft_schedule.declared.event.Outcome.TheVariants.{Skipped}
+use Rattle.proof_deeds.specs.raft_schedule.declared.event.SkipReason.{SkipReason}
+use Rattle.proof_deeds.specs.raft_schedule.declared.event.SkipReason.TheVariants.{NoMessage, NotRunning}
+use Rattle.proof_deeds.specs.raft_schedule.declared.event.Start.TheVariants.{Plain, Saved, Bare}
+use Rattle.proof_deeds.specs.raft_node.declared.act.Act.{Act}
+use Rattle.proof_deeds.specs.raft_node.declared.act.Act.TheVariants.{ChangeLearners, ChangeMembership, Elect, Fail, FinishSnapshot, Initialize, Propose, Read, Restart, SendHeartbeat, StepDown, Stop, Take, TriggerPurge, TriggerSnapshot}
+use Rattle.proof_deeds.specs.raft_node.declared.act.Aim.{Aim}
+use Rattle.proof_deeds.specs.raft_node.declared.given.Given.{Given}
+use Rattle.proof_deeds.specs.raft_calls.declared.elections.Candidates.TheVariants.{AllMembers, Voters}
+use Rattle.proof_deeds.specs.raft_calls.declared.message.Message.{Message}
+use Rattle.proof_deeds.specs.raft_node.Events.{Scene, called_at, calls, moment_of, aim_of, at_node, at_place, calls_at, finish, happens, message_at, on_engine, place_of, played, skip_reason, turn_of, work_of}
+use Rattle.proof_deeds.specs.raft_calls.Elections.{first_entry}
+use Rattle.proof_deeds.specs.raft_calls.Memberships.{groups_in, members_with, membership_entry}
+use Rattle.proof_deeds.specs.raft_node.Net.{Net, NodeView, empty_net, new_node}
+use Rattle.proof_deeds.specs.raft_node.Runs.{whole_logs, world_after}
+use Rattle.proof_deeds.specs.raft_node.Snapshots.{finish_snapshot, kept_built}
+use Rattle.proof_deeds.specs.raft_calls.Snapshots.{told_built}
+use Rattle.proof_deeds.specs.raft_node.WellFormed.{IsWellFormed}
+use Rattle.proof_deeds.specs.raft_node.Work.{weight, worked}
+use Rattle.proof_deeds.specs.raft_node.Held.{IsAtRest}
+use Rattle.proof_deeds.specs.raft_calls.Held.{IsRestingWhereRunning}
 use Rattle.proof_deeds.proofs.Nodes.{each_at, placed_id}
 use Rattle.proof_deeds.proofs.Proved.{after_resting}
 use Rattle.proof_deeds.proofs.Stored.{each_take}

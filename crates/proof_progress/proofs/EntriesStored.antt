@@ -7,36 +7,36 @@ use Rattle.std.specs.BTreeMap.{insert_entry}
 use Rattle.std.specs.Option.{option_to_list}
 use Rattle.std.specs.declared.cmp.Ordering.TheVariants.{Equal, Greater, Less}
 use Rattle.std.specs.Ordering.{is_eq, match_ordering, nat_cmp}
-use Rattle.raft_state.specs.declared.ids.LogId.{LogId}
-use Rattle.raft_state.specs.Order.{next, vote_cmp}
-use Rattle.raft_state.proofs.LogLists.{each_append, each_filter}
-use Rattle.raft_progress_entry.specs.declared.entry.Inflight.{Inflight}
-use Rattle.raft_progress_entry.specs.declared.entry.Inflight.TheVariants as inflight
-use Rattle.raft_error.specs.declared.error.EngineError.{EngineError}
-use Rattle.raft_command.specs.declared.command.Command.TheVariants as command
-use Rattle.raft_command.specs.declared.replication.ReplicationSessionId.{ReplicationSessionId}
-use Rattle.raft_command.specs.declared.respond.Respond.TheVariants as respond
-use Rattle.raft_command.specs.declared.sm.CommandPayload.TheVariants as payload
-use Rattle.raft_command.specs.Queue.{popped}
-use Rattle.raft_steps.specs.Parts.{led_of, leading}
-use Rattle.raft_steps.specs.Refusals.{refusals_of_local_progress, refusals_of_vote_resp}
-use Rattle.raft_steps.specs.Engine.{handle_vote_resp}
-use Rattle.raft_steps.specs.ReplicationHandler.{update_local_progress}
-use Rattle.raft_steps.proofs.Allowed.{local_only}
-use Rattle.raft_store.specs.declared.entry.Entry.{Entry}
-use Rattle.raft_store.specs.Entries.{entry_meaning}
-use Rattle.raft_store.specs.Store.{between, due, index_of, past, put, whole}
-use Rattle.raft_store.specs.Types.{EngineView, WorldCandidate, WorldCommand, WorldLeader, WorldPayload, WorldStore}
-use Rattle.raft_calls.specs.declared.message.Body.{Body}
-use Rattle.raft_calls.specs.declared.message.Body.TheVariants as body
-use Rattle.raft_calls.specs.declared.message.Message.{Message}
-use Rattle.raft_node.specs.declared.node.Turn.{Turn}
-use Rattle.raft_node.specs.Execute.{Effects, exec, exec_payload, heartbeat, replication, replies, reply_to, replicate_committed, sending, to_each}
-use Rattle.raft_calls.specs.Engines.{WorldRespond, with_queue}
-use Rattle.raft_calls.specs.Feeds.{last_sent, asks_itself, called, feed, grant_own, hold_own, own_grant}
-use Rattle.raft_node.specs.Runs.{whole_logs}
-use Rattle.raft_node.specs.Work.{Work, done_of, one_less, step_of, stopped, stops, work_step, worked}
-use Rattle.raft_node.proofs.Worked.{worked-keeps}
+use Rattle.proof_deeds.specs.raft_state.declared.ids.LogId.{LogId}
+use Rattle.proof_deeds.specs.raft_state.Order.{next, vote_cmp}
+use Rattle.proof_deeds.proofs.raft_state_proofs.LogLists.{each_append, each_filter}
+use Rattle.proof_deeds.specs.raft_progress_entry.declared.entry.Inflight.{Inflight}
+use Rattle.proof_deeds.specs.raft_progress_entry.declared.entry.Inflight.TheVariants as inflight
+use Rattle.proof_deeds.specs.raft_error.declared.error.EngineError.{EngineError}
+use Rattle.proof_deeds.specs.raft_command.declared.command.Command.TheVariants as command
+use Rattle.proof_deeds.specs.raft_command.declared.replication.ReplicationSessionId.{ReplicationSessionId}
+use Rattle.proof_deeds.specs.raft_command.declared.respond.Respond.TheVariants as respond
+use Rattle.proof_deeds.specs.raft_command.declared.sm.CommandPayload.TheVariants as payload
+use Rattle.proof_deeds.specs.raft_command.Queue.{popped}
+use Rattle.proof_deeds.specs.raft_steps.Parts.{led_of, leading}
+use Rattle.proof_deeds.specs.raft_steps.Refusals.{refusals_of_local_progress, refusals_of_vote_resp}
+use Rattle.proof_deeds.specs.raft_steps.Engine.{handle_vote_resp}
+use Rattle.proof_deeds.specs.raft_steps.ReplicationHandler.{update_local_progress}
+use Rattle.proof_deeds.proofs.raft_steps_proofs.Allowed.{local_only}
+use Rattle.proof_deeds.specs.raft_store.declared.entry.Entry.{Entry}
+use Rattle.proof_deeds.specs.raft_store.Entries.{entry_meaning}
+use Rattle.proof_deeds.specs.raft_store.Store.{between, due, index_of, past, put, whole}
+use Rattle.proof_deeds.specs.raft_store.Types.{EngineView, WorldCandidate, WorldCommand, WorldLeader, WorldPayload, WorldStore}
+use Rattle.proof_deeds.specs.raft_calls.declared.message.Body.{Body}
+use Rattle.proof_deeds.specs.raft_calls.declared.message.Body.TheVariants as body
+use Rattle.proof_deeds.specs.raft_calls.declared.message.Message.{Message}
+use Rattle.proof_deeds.specs.raft_node.declared.node.Turn.{Turn}
+use Rattle.proof_deeds.specs.raft_node.Execute.{Effects, exec, exec_payload, heartbeat, replication, replies, reply_to, replicate_committed, sending, to_each}
+use Rattle.proof_deeds.specs.raft_calls.Engines.{WorldRespond, with_queue}
+use Rattle.proof_deeds.specs.raft_calls.Feeds.{last_sent, asks_itself, called, feed, grant_own, hold_own, own_grant}
+use Rattle.proof_deeds.specs.raft_node.Runs.{whole_logs}
+use Rattle.proof_deeds.specs.raft_node.Work.{Work, done_of, one_less, step_of, stopped, stops, work_step, worked}
+use Rattle.proof_deeds.proofs.raft_node_proofs.Worked.{worked-keeps}
 use Rattle.proof_progress.proofs.EntriesQueued.{BodyOf, Brings, BringsIn, IsCommon, Only, brings_all, brings_leading, here, vote_resp-only}
 
 module _ (K : Entry → Type 0) where

@@ -7,64 +7,64 @@ use Rattle.std.specs.Cmp.{tied_itself}
 use Rattle.std.specs.Ordering.{is_eq, is_le, nat_cmp}
 use Rattle.std.proofs.lemmas.Bool.{true≢false}
 use Rattle.std.proofs.lemmas.Cmp.{nat_cmp_total}
-use Rattle.raft_state.specs.declared.ids.LogId.{LogId}
-use Rattle.raft_state.specs.declared.ids.Vote.{Vote}
-use Rattle.raft_state.specs.Log.{last}
-use Rattle.raft_state.specs.Order.{last_id_cmp, next, vote_cmp}
-use Rattle.raft_state.specs.Same.{nat_same}
-use Rattle.raft_state.specs.State.{accepted as accepted_of, has_log_id}
-use Rattle.raft_state.proofs.Orders.{last_total}
-use Rattle.raft_progress_entry.specs.declared.entry.Inflight.{Inflight}
-use Rattle.raft_progress_entry.specs.declared.entry.Inflight.TheVariants as inflight
-use Rattle.raft_progress_entry.specs.declared.entry.LogIdRange.{LogIdRange}
-use Rattle.raft_progress_entry.specs.declared.entry.ProgressEntry.{ProgressEntry}
-use Rattle.raft_error.specs.declared.error.EngineError.{EngineError}
-use Rattle.raft_error.specs.declared.error.EngineError.TheVariants.{CounterEnd, ForeignInflight, Spent, UnknownTarget}
-use Rattle.raft_progress_entry.specs.Entry.{next_send, send_end, send_start, sent, silenced}
-use Rattle.raft_error.specs.Number.{first_refusal}
-use Rattle.raft_command.specs.Replication.{number_of}
-use Rattle.raft_progress.specs.Table.{get}
-use Rattle.raft_command.specs.declared.message.AppendEntriesResponse.{AppendEntriesResponse}
-use Rattle.raft_command.specs.declared.message.AppendEntriesResponse.TheVariants.{Conflict, Success}
-use Rattle.raft_command.specs.declared.replication.ReplicationResult.{ReplicationResult}
-use Rattle.raft_command.specs.declared.replication.ReplicationSessionId.{ReplicationSessionId}
-use Rattle.raft_command.specs.declared.replication.RequestId.{RequestId}
-use Rattle.raft_command.specs.declared.replication.RequestId.TheVariants as request
-use Rattle.raft_proposer.specs.Joint.{u64_max}
-use Rattle.raft_steps.specs.Invariants.{IsSoundLed}
-use Rattle.raft_steps.specs.Parts.{led_of}
-use Rattle.raft_steps.specs.Refusals.{is_counter_end_among}
-use Rattle.raft_steps.specs.Replies.{purge_unless_inflight, send_next, take_reply, update_failed_progress, update_progress, update_success_progress}
-use Rattle.raft_steps.specs.ReplyRefusals.{is_own_request, refusals_of_progress}
-use Rattle.raft_steps.proofs.KeptAppend.{past_committed}
-use Rattle.raft_steps.proofs.KeptReplies.{failed_kept, success_kept}
-use Rattle.raft_steps.proofs.Room.{log_end}
-use Rattle.raft_store.specs.declared.entry.Entry.{Entry}
-use Rattle.raft_store.specs.Entries.{entry_meaning}
-use Rattle.raft_store.specs.Mirror.{Mirrors}
-use Rattle.raft_store.specs.Types.{EngineView, WorldLeader}
-use Rattle.raft_schedule.specs.declared.event.Event.{Event}
-use Rattle.raft_schedule.specs.declared.event.SkipReason.{SkipReason}
-use Rattle.raft_schedule.specs.declared.event.SkipReason.TheVariants.{NotRunning, StaleSession}
-use Rattle.raft_node.specs.declared.act.Act.{Act}
-use Rattle.raft_node.specs.declared.act.Act.TheVariants.{Fail, Take}
-use Rattle.raft_node.specs.declared.act.Aim.{Aim}
-use Rattle.raft_node.specs.declared.given.Given.{Given}
-use Rattle.raft_calls.specs.declared.message.Body.{Body}
-use Rattle.raft_calls.specs.declared.message.Body.TheVariants as body
-use Rattle.raft_calls.specs.declared.message.Message.{Message}
-use Rattle.raft_calls.specs.declared.message.Origin.{Origin}
-use Rattle.raft_node.specs.declared.node.Turn.{Turn}
-use Rattle.raft_calls.specs.Deliveries.{deliver as delivered, progressed, take_append_reply, leads_in, same_session, skip_reply, session_of}
-use Rattle.raft_node.specs.Events.{aim_of, answer_at, calls_at, happens, message_at, moment_of, on_engine, skip_reason}
-use Rattle.raft_calls.specs.Feeds.{last_sent, WorldLed}
-use Rattle.raft_node.specs.Execute.{heartbeat, origin, replication}
-use Rattle.raft_calls.specs.LeaderCalls.{failed, inflight_to, skip_fail, skip_inflight}
-use Rattle.raft_calls.specs.LeaderCalls as calls
-use Rattle.raft_node.specs.Net.{Net, NodeView, Records}
-use Rattle.raft_node.specs.Runs.{whole_logs, world_after}
-use Rattle.raft_node.specs.WellFormed.{IsWellFormed}
-use Rattle.raft_node.specs.Work.{weight}
+use Rattle.proof_deeds.specs.raft_state.declared.ids.LogId.{LogId}
+use Rattle.proof_deeds.specs.raft_state.declared.ids.Vote.{Vote}
+use Rattle.proof_deeds.specs.raft_state.Log.{last}
+use Rattle.proof_deeds.specs.raft_state.Order.{last_id_cmp, next, vote_cmp}
+use Rattle.proof_deeds.specs.raft_state.Same.{nat_same}
+use Rattle.proof_deeds.specs.raft_state.State.{accepted as accepted_of, has_log_id}
+use Rattle.proof_deeds.proofs.raft_state_proofs.Orders.{last_total}
+use Rattle.proof_deeds.specs.raft_progress_entry.declared.entry.Inflight.{Inflight}
+use Rattle.proof_deeds.specs.raft_progress_entry.declared.entry.Inflight.TheVariants as inflight
+use Rattle.proof_deeds.specs.raft_progress_entry.declared.entry.LogIdRange.{LogIdRange}
+use Rattle.proof_deeds.specs.raft_progress_entry.declared.entry.ProgressEntry.{ProgressEntry}
+use Rattle.proof_deeds.specs.raft_error.declared.error.EngineError.{EngineError}
+use Rattle.proof_deeds.specs.raft_error.declared.error.EngineError.TheVariants.{CounterEnd, ForeignInflight, Spent, UnknownTarget}
+use Rattle.proof_deeds.specs.raft_progress_entry.Entry.{next_send, send_end, send_start, sent, silenced}
+use Rattle.proof_deeds.specs.raft_error.Number.{first_refusal}
+use Rattle.proof_deeds.specs.raft_command.Replication.{number_of}
+use Rattle.proof_deeds.specs.raft_progress.Table.{get}
+use Rattle.proof_deeds.specs.raft_command.declared.message.AppendEntriesResponse.{AppendEntriesResponse}
+use Rattle.proof_deeds.specs.raft_command.declared.message.AppendEntriesResponse.TheVariants.{Conflict, Success}
+use Rattle.proof_deeds.specs.raft_command.declared.replication.ReplicationResult.{ReplicationResult}
+use Rattle.proof_deeds.specs.raft_command.declared.replication.ReplicationSessionId.{ReplicationSessionId}
+use Rattle.proof_deeds.specs.raft_command.declared.replication.RequestId.{RequestId}
+use Rattle.proof_deeds.specs.raft_command.declared.replication.RequestId.TheVariants as request
+use Rattle.proof_deeds.specs.raft_proposer.Joint.{u64_max}
+use Rattle.proof_deeds.specs.raft_steps.Invariants.{IsSoundLed}
+use Rattle.proof_deeds.specs.raft_steps.Parts.{led_of}
+use Rattle.proof_deeds.specs.raft_steps.Refusals.{is_counter_end_among}
+use Rattle.proof_deeds.specs.raft_steps.Replies.{purge_unless_inflight, send_next, take_reply, update_failed_progress, update_progress, update_success_progress}
+use Rattle.proof_deeds.specs.raft_steps.ReplyRefusals.{is_own_request, refusals_of_progress}
+use Rattle.proof_deeds.proofs.raft_steps_proofs.KeptAppend.{past_committed}
+use Rattle.proof_deeds.proofs.raft_steps_proofs.KeptReplies.{failed_kept, success_kept}
+use Rattle.proof_deeds.proofs.raft_steps_proofs.Room.{log_end}
+use Rattle.proof_deeds.specs.raft_store.declared.entry.Entry.{Entry}
+use Rattle.proof_deeds.specs.raft_store.Entries.{entry_meaning}
+use Rattle.proof_deeds.specs.raft_store.Mirror.{Mirrors}
+use Rattle.proof_deeds.specs.raft_store.Types.{EngineView, WorldLeader}
+use Rattle.proof_deeds.specs.raft_schedule.declared.event.Event.{Event}
+use Rattle.proof_deeds.specs.raft_schedule.declared.event.SkipReason.{SkipReason}
+use Rattle.proof_deeds.specs.raft_schedule.declared.event.SkipReason.TheVariants.{NotRunning, StaleSession}
+use Rattle.proof_deeds.specs.raft_node.declared.act.Act.{Act}
+use Rattle.proof_deeds.specs.raft_node.declared.act.Act.TheVariants.{Fail, Take}
+use Rattle.proof_deeds.specs.raft_node.declared.act.Aim.{Aim}
+use Rattle.proof_deeds.specs.raft_node.declared.given.Given.{Given}
+use Rattle.proof_deeds.specs.raft_calls.declared.message.Body.{Body}
+use Rattle.proof_deeds.specs.raft_calls.declared.message.Body.TheVariants as body
+use Rattle.proof_deeds.specs.raft_calls.declared.message.Message.{Message}
+use Rattle.proof_deeds.specs.raft_calls.declared.message.Origin.{Origin}
+use Rattle.proof_deeds.specs.raft_node.declared.node.Turn.{Turn}
+use Rattle.proof_deeds.specs.raft_calls.Deliveries.{deliver as delivered, progressed, take_append_reply, leads_in, same_session, skip_reply, session_of}
+use Rattle.proof_deeds.specs.raft_node.Events.{aim_of, answer_at, calls_at, happens, message_at, moment_of, on_engine, skip_reason}
+use Rattle.proof_deeds.specs.raft_calls.Feeds.{last_sent, WorldLed}
+use Rattle.proof_deeds.specs.raft_node.Execute.{heartbeat, origin, replication}
+use Rattle.proof_deeds.specs.raft_calls.LeaderCalls.{failed, inflight_to, skip_fail, skip_inflight}
+use Rattle.proof_deeds.specs.raft_calls.LeaderCalls as calls
+use Rattle.proof_deeds.specs.raft_node.Net.{Net, NodeView, Records}
+use Rattle.proof_deeds.specs.raft_node.Runs.{whole_logs, world_after}
+use Rattle.proof_deeds.specs.raft_node.WellFormed.{IsWellFormed}
+use Rattle.proof_deeds.specs.raft_node.Work.{weight}
 use Rattle.proof_deeds.specs.Images.{setup_of}
 use Rattle.proof_deeds.specs.Knows.{KnowsLed}
 use Rattle.proof_deeds.specs.Nets.{EngineFollows}

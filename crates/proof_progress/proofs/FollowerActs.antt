@@ -7,36 +7,36 @@ use Rattle.std.specs.Ordering.{is_eq, is_le, nat_cmp}
 use Rattle.std.specs.Result.{is_ok}
 use Rattle.std.proofs.lemmas.Bool.Decides.{nat_tests}
 use Rattle.std.proofs.lemmas.Cmp.{nat_cmp_total}
-use Rattle.raft_state.specs.declared.ids.LogId.{LogId}
-use Rattle.raft_state.specs.declared.ids.Vote.{Vote}
-use Rattle.raft_state.specs.Consecutive.{follows_on}
-use Rattle.raft_state.specs.Log.{last}
-use Rattle.raft_state.specs.Order.{last_id_cmp}
-use Rattle.raft_state.specs.Same.{nat_same}
-use Rattle.raft_state.specs.State.{accepted}
-use Rattle.raft_state.specs.declared.policy.RejectAppendEntries.{RejectAppendEntries}
-use Rattle.raft_state.specs.declared.policy.RejectAppendEntries.TheVariants as reject
-use Rattle.raft_state.proofs.Orders.{last_total, le_trans}
-use Rattle.raft_error.specs.declared.error.EngineError.{EngineError}
-use Rattle.raft_error.specs.declared.error.EngineError.TheVariants.{CommittedNotHeld, ContradictsHeld, CounterEnd, IndexEnd, NotFollowing, Spent}
-use Rattle.raft_error.specs.Number.{first_refusal, number_of}
-use Rattle.raft_command.specs.declared.command.Command.TheVariants.{Respond}
-use Rattle.raft_command.specs.declared.message.AppendEntriesResponse.{AppendEntriesResponse}
-use Rattle.raft_command.specs.declared.message.AppendEntriesResponse.TheVariants.{Conflict, Success}
-use Rattle.raft_command.specs.declared.respond.Respond.TheVariants as respond
-use Rattle.raft_command.specs.Message.{append_response}
-use Rattle.raft_steps.specs.Laws.{QueuesOnly, later}
-use Rattle.raft_steps.specs.FollowingHandler.{commit_target}
-use Rattle.raft_steps.specs.Refusals.{is_at_end, is_counter_end, is_near_end, is_spent, refusals_of_counter, rows_in}
-use Rattle.raft_steps.specs.RequestRefusals.{contradicts_accepted, contradicts_committed, is_above_committed, is_above_vote, is_missing, refusals_of_append, refusals_of_commit, refusals_of_follow, refusals_of_held}
-use Rattle.raft_steps.specs.Requests.{append_answer, handle_append_entries, handle_commit_entries}
-use Rattle.raft_steps.specs.VoteHandler.{rejects_vote}
-use Rattle.raft_steps.proofs.Followed.{ids_asked}
-use Rattle.raft_store.specs.declared.entry.Entry.{Entry}
-use Rattle.raft_store.specs.Entries.{entry_meaning}
-use Rattle.raft_store.specs.Types.{EngineView, WorldCommand}
-use Rattle.raft_calls.specs.Deliveries.{answered as call_answered, appended, reply_token, take_append, take_commit, with_machine}
-use Rattle.raft_node.specs.Safety.{IsOtherRefusal}
+use Rattle.proof_deeds.specs.raft_state.declared.ids.LogId.{LogId}
+use Rattle.proof_deeds.specs.raft_state.declared.ids.Vote.{Vote}
+use Rattle.proof_deeds.specs.raft_state.Consecutive.{follows_on}
+use Rattle.proof_deeds.specs.raft_state.Log.{last}
+use Rattle.proof_deeds.specs.raft_state.Order.{last_id_cmp}
+use Rattle.proof_deeds.specs.raft_state.Same.{nat_same}
+use Rattle.proof_deeds.specs.raft_state.State.{accepted}
+use Rattle.proof_deeds.specs.raft_state.declared.policy.RejectAppendEntries.{RejectAppendEntries}
+use Rattle.proof_deeds.specs.raft_state.declared.policy.RejectAppendEntries.TheVariants as reject
+use Rattle.proof_deeds.proofs.raft_state_proofs.Orders.{last_total, le_trans}
+use Rattle.proof_deeds.specs.raft_error.declared.error.EngineError.{EngineError}
+use Rattle.proof_deeds.specs.raft_error.declared.error.EngineError.TheVariants.{CommittedNotHeld, ContradictsHeld, CounterEnd, IndexEnd, NotFollowing, Spent}
+use Rattle.proof_deeds.specs.raft_error.Number.{first_refusal, number_of}
+use Rattle.proof_deeds.specs.raft_command.declared.command.Command.TheVariants.{Respond}
+use Rattle.proof_deeds.specs.raft_command.declared.message.AppendEntriesResponse.{AppendEntriesResponse}
+use Rattle.proof_deeds.specs.raft_command.declared.message.AppendEntriesResponse.TheVariants.{Conflict, Success}
+use Rattle.proof_deeds.specs.raft_command.declared.respond.Respond.TheVariants as respond
+use Rattle.proof_deeds.specs.raft_command.Message.{append_response}
+use Rattle.proof_deeds.specs.raft_steps.Laws.{QueuesOnly, later}
+use Rattle.proof_deeds.specs.raft_steps.FollowingHandler.{commit_target}
+use Rattle.proof_deeds.specs.raft_steps.Refusals.{is_at_end, is_counter_end, is_near_end, is_spent, refusals_of_counter, rows_in}
+use Rattle.proof_deeds.specs.raft_steps.RequestRefusals.{contradicts_accepted, contradicts_committed, is_above_committed, is_above_vote, is_missing, refusals_of_append, refusals_of_commit, refusals_of_follow, refusals_of_held}
+use Rattle.proof_deeds.specs.raft_steps.Requests.{append_answer, handle_append_entries, handle_commit_entries}
+use Rattle.proof_deeds.specs.raft_steps.VoteHandler.{rejects_vote}
+use Rattle.proof_deeds.proofs.raft_steps_proofs.Followed.{ids_asked}
+use Rattle.proof_deeds.specs.raft_store.declared.entry.Entry.{Entry}
+use Rattle.proof_deeds.specs.raft_store.Entries.{entry_meaning}
+use Rattle.proof_deeds.specs.raft_store.Types.{EngineView, WorldCommand}
+use Rattle.proof_deeds.specs.raft_calls.Deliveries.{answered as call_answered, appended, reply_token, take_append, take_commit, with_machine}
+use Rattle.proof_deeds.specs.raft_node.Safety.{IsOtherRefusal}
 use Rattle.proof_progress.proofs.Answering.{handle_commit_accepted, handle_commits, success_accepts, success_keeps}
 use Rattle.proof_progress.proofs.Taking.{Calm, Took, handle_commit_calm, handle_commit_queues, heard_accepted, took}
 use Rattle.proof_progress.proofs.WorksOff.{SendsNothing}

@@ -6,45 +6,45 @@ use Rattle.std.specs.Option.{option_map, option_to_list}
 use Rattle.std.specs.Ordering.{is_eq, is_le, nat_cmp}
 use Rattle.std.proofs.lemmas.Bool.Decides.{nat_tests}
 use Rattle.std.proofs.lemmas.Cmp.{nat_cmp_total}
-use Rattle.raft_state.specs.declared.ids.LogId.{LogId}
-use Rattle.raft_state.specs.declared.ids.Vote.{Vote}
-use Rattle.raft_state.specs.LogLaws.{IsRun}
-use Rattle.raft_state.specs.Log.{last}
-use Rattle.raft_state.specs.Order.{last_id_cmp, next}
-use Rattle.raft_state.specs.Same.{nat_same}
-use Rattle.raft_state.specs.State.{accepted, has_log_id}
-use Rattle.raft_state.proofs.Orders.{last_total, le_trans}
-use Rattle.raft_command.specs.declared.command.Command.TheVariants.{Respond}
-use Rattle.raft_command.specs.declared.message.AppendEntriesResponse.{AppendEntriesResponse}
-use Rattle.raft_command.specs.declared.message.AppendEntriesResponse.TheVariants.{Conflict, Success}
-use Rattle.raft_command.specs.declared.respond.Respond.TheVariants as respond
-use Rattle.raft_command.specs.Message.{append_response}
-use Rattle.raft_proposer.specs.Joint.{u64_max}
-use Rattle.raft_steps.specs.Laws.{later}
-use Rattle.raft_steps.specs.Refusals.{is_at_end}
-use Rattle.raft_steps.specs.Requests.{append_answer}
-use Rattle.raft_steps.specs.VoteHandler.{rejects_vote}
-use Rattle.raft_store.specs.declared.entry.Entry.{Entry}
-use Rattle.raft_store.specs.Entries.{entry_meaning}
-use Rattle.raft_store.specs.Types.{EngineView, WorldCommand}
-use Rattle.raft_schedule.specs.declared.event.Event.{Event}
-use Rattle.raft_schedule.specs.declared.event.SkipReason.{SkipReason}
-use Rattle.raft_schedule.specs.declared.event.SkipReason.TheVariants.{NotRunning}
-use Rattle.raft_node.specs.declared.act.Act.TheVariants.{Take}
-use Rattle.raft_node.specs.declared.act.Aim.{Aim}
-use Rattle.raft_node.specs.declared.given.Given.{Given}
-use Rattle.raft_calls.specs.declared.message.Body.TheVariants as body
-use Rattle.raft_calls.specs.declared.message.Message.{Message}
-use Rattle.raft_calls.specs.declared.message.Origin.{Origin}
-use Rattle.raft_node.specs.declared.node.Turn.{Turn}
-use Rattle.raft_calls.specs.Deliveries.{deliver as delivered, reply_token, take_append}
-use Rattle.raft_node.specs.Events.{happens, message_at}
-use Rattle.raft_calls.specs.Feeds.{last_sent}
-use Rattle.raft_node.specs.Execute.{sending}
-use Rattle.raft_node.specs.Net.{Net, NodeView, Records}
-use Rattle.raft_node.specs.Runs.{whole_logs, world_after}
-use Rattle.raft_node.specs.WellFormed.{IsWellFormed}
-use Rattle.raft_node.specs.Work.{weight, worked}
+use Rattle.proof_deeds.specs.raft_state.declared.ids.LogId.{LogId}
+use Rattle.proof_deeds.specs.raft_state.declared.ids.Vote.{Vote}
+use Rattle.proof_deeds.specs.raft_state.LogLaws.{IsRun}
+use Rattle.proof_deeds.specs.raft_state.Log.{last}
+use Rattle.proof_deeds.specs.raft_state.Order.{last_id_cmp, next}
+use Rattle.proof_deeds.specs.raft_state.Same.{nat_same}
+use Rattle.proof_deeds.specs.raft_state.State.{accepted, has_log_id}
+use Rattle.proof_deeds.proofs.raft_state_proofs.Orders.{last_total, le_trans}
+use Rattle.proof_deeds.specs.raft_command.declared.command.Command.TheVariants.{Respond}
+use Rattle.proof_deeds.specs.raft_command.declared.message.AppendEntriesResponse.{AppendEntriesResponse}
+use Rattle.proof_deeds.specs.raft_command.declared.message.AppendEntriesResponse.TheVariants.{Conflict, Success}
+use Rattle.proof_deeds.specs.raft_command.declared.respond.Respond.TheVariants as respond
+use Rattle.proof_deeds.specs.raft_command.Message.{append_response}
+use Rattle.proof_deeds.specs.raft_proposer.Joint.{u64_max}
+use Rattle.proof_deeds.specs.raft_steps.Laws.{later}
+use Rattle.proof_deeds.specs.raft_steps.Refusals.{is_at_end}
+use Rattle.proof_deeds.specs.raft_steps.Requests.{append_answer}
+use Rattle.proof_deeds.specs.raft_steps.VoteHandler.{rejects_vote}
+use Rattle.proof_deeds.specs.raft_store.declared.entry.Entry.{Entry}
+use Rattle.proof_deeds.specs.raft_store.Entries.{entry_meaning}
+use Rattle.proof_deeds.specs.raft_store.Types.{EngineView, WorldCommand}
+use Rattle.proof_deeds.specs.raft_schedule.declared.event.Event.{Event}
+use Rattle.proof_deeds.specs.raft_schedule.declared.event.SkipReason.{SkipReason}
+use Rattle.proof_deeds.specs.raft_schedule.declared.event.SkipReason.TheVariants.{NotRunning}
+use Rattle.proof_deeds.specs.raft_node.declared.act.Act.TheVariants.{Take}
+use Rattle.proof_deeds.specs.raft_node.declared.act.Aim.{Aim}
+use Rattle.proof_deeds.specs.raft_node.declared.given.Given.{Given}
+use Rattle.proof_deeds.specs.raft_calls.declared.message.Body.TheVariants as body
+use Rattle.proof_deeds.specs.raft_calls.declared.message.Message.{Message}
+use Rattle.proof_deeds.specs.raft_calls.declared.message.Origin.{Origin}
+use Rattle.proof_deeds.specs.raft_node.declared.node.Turn.{Turn}
+use Rattle.proof_deeds.specs.raft_calls.Deliveries.{deliver as delivered, reply_token, take_append}
+use Rattle.proof_deeds.specs.raft_node.Events.{happens, message_at}
+use Rattle.proof_deeds.specs.raft_calls.Feeds.{last_sent}
+use Rattle.proof_deeds.specs.raft_node.Execute.{sending}
+use Rattle.proof_deeds.specs.raft_node.Net.{Net, NodeView, Records}
+use Rattle.proof_deeds.specs.raft_node.Runs.{whole_logs, world_after}
+use Rattle.proof_deeds.specs.raft_node.WellFormed.{IsWellFormed}
+use Rattle.proof_deeds.specs.raft_node.Work.{weight, worked}
 use Rattle.proof_deeds.specs.Follows.{AppendSent}
 use Rattle.proof_deeds.specs.Images.{setup_of}
 use Rattle.proof_deeds.specs.Nets.{EngineFollows}

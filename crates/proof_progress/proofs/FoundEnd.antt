@@ -5,34 +5,34 @@ use Rattle.std.specs.Map.{values_of}
 use Rattle.std.specs.Option.{option_or}
 use Rattle.std.proofs.lemmas.Bool.{cases_lt}
 use Rattle.std.proofs.lemmas.Cmp.{nat_cmp_total}
-use Rattle.raft_state.specs.declared.ids.LogId.{LogId}
-use Rattle.raft_state.specs.declared.state.RaftState.{RaftState}
-use Rattle.raft_state.specs.Fits.{fits, is_within}
-use Rattle.raft_state.specs.Invariants.{IsSoundState, first_index}
-use Rattle.raft_state.specs.Log.{at, last}
-use Rattle.raft_state.specs.LogLaws.{IsRun, at-append}
-use Rattle.raft_state.specs.Order.{next}
-use Rattle.raft_state.specs.Same.{nat_same}
-use Rattle.raft_state.proofs.LogLists.{fits_has}
-use Rattle.raft_state.proofs.Orders.{within_trans}
-use Rattle.raft_store.specs.declared.entry.Entry.{Entry}
-use Rattle.raft_store.specs.Built.{last_membership}
-use Rattle.raft_store.specs.Entries.{entry_meaning}
-use Rattle.raft_store.specs.Restart.{restarted, settled, started}
-use Rattle.raft_store.specs.Store.{index_of, whole}
-use Rattle.raft_store.specs.Types.{WorldStore}
-use Rattle.raft_store.proofs.Lists.{next_last_0, onward}
-use Rattle.raft_schedule.specs.declared.event.Event.{Event}
-use Rattle.raft_node.specs.declared.given.Given.{Given}
-use Rattle.raft_node.specs.Net.{NodeView}
-use Rattle.raft_node.specs.Runs.{world_after}
-use Rattle.raft_node.specs.WellFormed.{IsWellFormed}
-use Rattle.proof_mirror.specs.Ready.{InStep}
-use Rattle.proof_mirror.proofs.Commits.{whole_at}
-use Rattle.proof_mirror.proofs.Puts.{map_more}
-use Rattle.proof_mirror.proofs.Restarting.{restart_in_step}
-use Rattle.proof_mirror.proofs.Shape.{Shape, ids_of_run, length_ids, shape_of, whole_end, whole_run}
-use Rattle.proof_agreement.specs.Stores as stores
+use Rattle.proof_deeds.specs.raft_state.declared.ids.LogId.{LogId}
+use Rattle.proof_deeds.specs.raft_state.declared.state.RaftState.{RaftState}
+use Rattle.proof_deeds.specs.raft_state.Fits.{fits, is_within}
+use Rattle.proof_deeds.specs.raft_state.Invariants.{IsSoundState, first_index}
+use Rattle.proof_deeds.specs.raft_state.Log.{at, last}
+use Rattle.proof_deeds.specs.raft_state.LogLaws.{IsRun, at-append}
+use Rattle.proof_deeds.specs.raft_state.Order.{next}
+use Rattle.proof_deeds.specs.raft_state.Same.{nat_same}
+use Rattle.proof_deeds.proofs.raft_state_proofs.LogLists.{fits_has}
+use Rattle.proof_deeds.proofs.raft_state_proofs.Orders.{within_trans}
+use Rattle.proof_deeds.specs.raft_store.declared.entry.Entry.{Entry}
+use Rattle.proof_deeds.specs.raft_store.Built.{last_membership}
+use Rattle.proof_deeds.specs.raft_store.Entries.{entry_meaning}
+use Rattle.proof_deeds.specs.raft_store.Restart.{restarted, settled, started}
+use Rattle.proof_deeds.specs.raft_store.Store.{index_of, whole}
+use Rattle.proof_deeds.specs.raft_store.Types.{WorldStore}
+use Rattle.proof_deeds.proofs.raft_store_proofs.Lists.{next_last_0, onward}
+use Rattle.proof_deeds.specs.raft_schedule.declared.event.Event.{Event}
+use Rattle.proof_deeds.specs.raft_node.declared.given.Given.{Given}
+use Rattle.proof_deeds.specs.raft_node.Net.{NodeView}
+use Rattle.proof_deeds.specs.raft_node.Runs.{world_after}
+use Rattle.proof_deeds.specs.raft_node.WellFormed.{IsWellFormed}
+use Rattle.proof_deeds.specs.proof_mirror.Ready.{InStep}
+use Rattle.proof_deeds.proofs.proof_mirror_proofs.Commits.{whole_at}
+use Rattle.proof_deeds.proofs.proof_mirror_proofs.Puts.{map_more}
+use Rattle.proof_deeds.proofs.proof_mirror_proofs.Restarting.{restart_in_step}
+use Rattle.proof_deeds.proofs.proof_mirror_proofs.Shape.{Shape, ids_of_run, length_ids, shape_of, whole_end, whole_run}
+use Rattle.proof_deeds.specs.proof_agreement.Stores as stores
 use Rattle.proof_deeds.specs.Images.{setup_of}
 use Rattle.proof_deeds.specs.Nets.{NodeFollows}
 use Rattle.proof_deeds.proofs.AppendFitting.{Settled}

@@ -6,23 +6,23 @@ use Rattle.std.specs.Ordering.{nat_cmp}
 use Rattle.std.proofs.lemmas.Bool.{and_parts, cases_lt, cond_both, ltb-true, not-true}
 use Rattle.std.proofs.lemmas.Cmp.{nat_cmp_total}
 use Rattle.std.proofs.lemmas.List.{length-map}
-use Rattle.raft_state.specs.declared.ids.LogId.{LogId}
-use Rattle.raft_state.specs.Log.{at}
-use Rattle.raft_state.specs.Order.{next}
-use Rattle.raft_state.specs.Same.{nat_same}
-use Rattle.raft_state.specs.State.{is_found}
-use Rattle.raft_state.proofs.StateLaws.{is_found_at}
-use Rattle.raft_store.specs.declared.entry.Entry.{Entry}
-use Rattle.raft_store.specs.Entries.{entry_meaning}
-use Rattle.raft_store.specs.Mirror.{map_ids}
-use Rattle.raft_store.specs.Restart.{is_outrun, settled, settled_by}
-use Rattle.raft_store.specs.Store.{past, whole}
-use Rattle.raft_store.specs.Types.{WorldStore}
-use Rattle.raft_store.proofs.Lists.{onward_none}
-use Rattle.proof_agreement.specs.Machine.{Setup}
-use Rattle.proof_agreement.specs.Deeds.{Reaches}
-use Rattle.proof_mirror.specs.Ready.{Shaped}
-use Rattle.proof_mirror.proofs.Shape.{past_keyed, run_of_ids}
+use Rattle.proof_deeds.specs.raft_state.declared.ids.LogId.{LogId}
+use Rattle.proof_deeds.specs.raft_state.Log.{at}
+use Rattle.proof_deeds.specs.raft_state.Order.{next}
+use Rattle.proof_deeds.specs.raft_state.Same.{nat_same}
+use Rattle.proof_deeds.specs.raft_state.State.{is_found}
+use Rattle.proof_deeds.proofs.raft_state_proofs.StateLaws.{is_found_at}
+use Rattle.proof_deeds.specs.raft_store.declared.entry.Entry.{Entry}
+use Rattle.proof_deeds.specs.raft_store.Entries.{entry_meaning}
+use Rattle.proof_deeds.specs.raft_store.Mirror.{map_ids}
+use Rattle.proof_deeds.specs.raft_store.Restart.{is_outrun, settled, settled_by}
+use Rattle.proof_deeds.specs.raft_store.Store.{past, whole}
+use Rattle.proof_deeds.specs.raft_store.Types.{WorldStore}
+use Rattle.proof_deeds.proofs.raft_store_proofs.Lists.{onward_none}
+use Rattle.proof_deeds.specs.proof_agreement.Machine.{Setup}
+use Rattle.proof_deeds.specs.proof_agreement.Deeds.{Reaches}
+use Rattle.proof_deeds.specs.proof_mirror.Ready.{Shaped}
+use Rattle.proof_deeds.proofs.proof_mirror_proofs.Shape.{past_keyed, run_of_ids}
 use Rattle.proof_deeds.specs.Follows.{StoreIs}
 use Rattle.proof_deeds.specs.Images.{IdealStore, image}
 use Rattle.proof_deeds.proofs.Overlap.{Laps}

@@ -2,26 +2,26 @@
 use Rattle.std.proofs.Common.{ℕ, ◌≡◌, ◌≢◌, Bool, true, false, not, ◌&&◌, List, [], ◌∷◌, ◌++◌, refl, ap, ◌∙◌, Option, None, Some}
 use Rattle.std.specs.Prelude.{if◌then◌else◌}
 use Rattle.std.specs.Ordering.{is_eq, is_lt, nat_cmp}
-use Rattle.raft_state.specs.declared.ids.LeaderId.{LeaderId}
-use Rattle.raft_state.specs.declared.ids.LogId.{LogId}
-use Rattle.raft_state.specs.declared.state.ServerState.{ServerState}
-use Rattle.raft_state.specs.declared.state.ServerState.TheVariants.{Candidate, Follower, Leader, Learner}
-use Rattle.raft_state.specs.Log.{last}
-use Rattle.raft_state.specs.Members.{contains}
-use Rattle.raft_state.specs.Order.{last_id_cmp}
-use Rattle.raft_state.specs.State.{server_state}
-use Rattle.raft_error.specs.declared.error.EngineError.{EngineError}
-use Rattle.raft_command.specs.declared.command.Command.TheVariants.{SaveVote}
-use Rattle.raft_command.specs.declared.message.VoteRequest.{VoteRequest}
-use Rattle.raft_command.specs.declared.message.VoteResponse.{VoteResponse}
-use Rattle.raft_steps.specs.Parts.{on_core, then_command}
-use Rattle.raft_steps.specs.RequestRefusals.{refusals_of_vote_req}
-use Rattle.raft_steps.specs.Requests.{handle_vote_req, is_leased, refuses_vote_req, vote_req_answer, vote_response}
-use Rattle.raft_steps.specs.ServerStateHandler.{role_commands, update_role}
-use Rattle.raft_steps.specs.VoteHandler.{become_following, rejects_vote, update_vote}
-use Rattle.raft_store.specs.Entries.{entry_meaning}
-use Rattle.raft_store.specs.Types.{EngineView, WorldCommand, WorldMachine}
-use Rattle.raft_calls.specs.Deliveries.{take_vote_request, vote_reply, vote_requested, with_machine}
+use Rattle.proof_deeds.specs.raft_state.declared.ids.LeaderId.{LeaderId}
+use Rattle.proof_deeds.specs.raft_state.declared.ids.LogId.{LogId}
+use Rattle.proof_deeds.specs.raft_state.declared.state.ServerState.{ServerState}
+use Rattle.proof_deeds.specs.raft_state.declared.state.ServerState.TheVariants.{Candidate, Follower, Leader, Learner}
+use Rattle.proof_deeds.specs.raft_state.Log.{last}
+use Rattle.proof_deeds.specs.raft_state.Members.{contains}
+use Rattle.proof_deeds.specs.raft_state.Order.{last_id_cmp}
+use Rattle.proof_deeds.specs.raft_state.State.{server_state}
+use Rattle.proof_deeds.specs.raft_error.declared.error.EngineError.{EngineError}
+use Rattle.proof_deeds.specs.raft_command.declared.command.Command.TheVariants.{SaveVote}
+use Rattle.proof_deeds.specs.raft_command.declared.message.VoteRequest.{VoteRequest}
+use Rattle.proof_deeds.specs.raft_command.declared.message.VoteResponse.{VoteResponse}
+use Rattle.proof_deeds.specs.raft_steps.Parts.{on_core, then_command}
+use Rattle.proof_deeds.specs.raft_steps.RequestRefusals.{refusals_of_vote_req}
+use Rattle.proof_deeds.specs.raft_steps.Requests.{handle_vote_req, is_leased, refuses_vote_req, vote_req_answer, vote_response}
+use Rattle.proof_deeds.specs.raft_steps.ServerStateHandler.{role_commands, update_role}
+use Rattle.proof_deeds.specs.raft_steps.VoteHandler.{become_following, rejects_vote, update_vote}
+use Rattle.proof_deeds.specs.raft_store.Entries.{entry_meaning}
+use Rattle.proof_deeds.specs.raft_store.Types.{EngineView, WorldCommand, WorldMachine}
+use Rattle.proof_deeds.specs.raft_calls.Deliveries.{take_vote_request, vote_reply, vote_requested, with_machine}
 use Rattle.proof_progress.specs.Elections.{pending}
 use Rattle.proof_progress.proofs.Conditions.{EngineGrants}
 use Rattle.proof_progress.proofs.Images.{grant_reply, granted_with, quits}
@@ -86,7 +86,7 @@ module _ (d : LeaderId ℕ) (x : Option (LogId ℕ)) (now : ℕ) (e : EngineView
   unrefused : refusals_of_vote_req nat_cmp e.config asked now e.machine ≡ None
   unrefused = rw h.unspent (go (refuses_vote_req nat_cmp e.config e.machine.core.state asked now) (rejects_vote nat_cmp e.machine.core.state (pending d)))
     where
-      go : (a b : Bool) → ◌≡◌ {A = Option (EngineError ℕ (Unit {0}))} (if not a && (not b && false) then Some Rattle.raft_error.specs.declared.error.EngineError.TheVariants.IndexEnd else None) None
+      go : (a b : Bool) → ◌≡◌ {A = Option (EngineError ℕ (Unit {0}))} (if not a && (not b && false) then Some Rattle.proof_deeds.specs.raft_error.declared.error.EngineError.TheVariants.IndexEnd else None) None
       go true b = refl
       go false true = refl
       go false false = refl

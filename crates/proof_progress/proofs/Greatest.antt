@@ -5,29 +5,29 @@ use Rattle.std.proofs.lemmas.Bool.Decides.{nat_tests}
 use Rattle.std.proofs.lemmas.List.{length-append, length-map, map-append}
 use Rattle.std.specs.List.{AllByRecursion}
 use Rattle.std.specs.Ordering.{is_le, nat_cmp, ordering_then}
-use Rattle.raft_state.specs.declared.ids.LogId.{LogId}
-use Rattle.raft_state.specs.declared.membership.Members.{Members}
-use Rattle.raft_state.specs.Log.{at, last}
-use Rattle.raft_state.specs.LogLaws.{IsRun}
-use Rattle.raft_state.specs.Members.{voter_ids}
-use Rattle.raft_state.specs.Order.{last_id_cmp}
-use Rattle.raft_store.specs.declared.entry.Entry.{Entry}
-use Rattle.raft_store.specs.Entries.{entry_meaning}
-use Rattle.raft_store.specs.Store.{past, whole}
-use Rattle.raft_store.specs.Store as store
-use Rattle.raft_node.specs.declared.given.Given.{Given}
-use Rattle.raft_schedule.specs.declared.event.Event.{Event}
-use Rattle.raft_node.specs.Net.{NodeView}
-use Rattle.raft_node.specs.Runs.{world_after}
-use Rattle.raft_node.specs.WellFormed.{IsWellFormed}
-use Rattle.proof_agreement.specs.Machine.{Setup, leader_log, start}
-use Rattle.proof_agreement.specs.Stores.{entry_at}
-use Rattle.proof_agreement.specs.Stores as stores
-use Rattle.proof_agreement.specs.LeaderNumbers.{leader_node}
-use Rattle.proof_agreement.proofs.Invariants.{FollowsAt, IsPast}
-use Rattle.proof_agreement.proofs.LeaderNumbers.{leader_node-number}
-use Rattle.proof_agreement.proofs.StoresFollow.{StoreOk, StoresFollow}
-use Rattle.proof_mirror.specs.Ready.{Shaped}
+use Rattle.proof_deeds.specs.raft_state.declared.ids.LogId.{LogId}
+use Rattle.proof_deeds.specs.raft_state.declared.membership.Members.{Members}
+use Rattle.proof_deeds.specs.raft_state.Log.{at, last}
+use Rattle.proof_deeds.specs.raft_state.LogLaws.{IsRun}
+use Rattle.proof_deeds.specs.raft_state.Members.{voter_ids}
+use Rattle.proof_deeds.specs.raft_state.Order.{last_id_cmp}
+use Rattle.proof_deeds.specs.raft_store.declared.entry.Entry.{Entry}
+use Rattle.proof_deeds.specs.raft_store.Entries.{entry_meaning}
+use Rattle.proof_deeds.specs.raft_store.Store.{past, whole}
+use Rattle.proof_deeds.specs.raft_store.Store as store
+use Rattle.proof_deeds.specs.raft_node.declared.given.Given.{Given}
+use Rattle.proof_deeds.specs.raft_schedule.declared.event.Event.{Event}
+use Rattle.proof_deeds.specs.raft_node.Net.{NodeView}
+use Rattle.proof_deeds.specs.raft_node.Runs.{world_after}
+use Rattle.proof_deeds.specs.raft_node.WellFormed.{IsWellFormed}
+use Rattle.proof_deeds.specs.proof_agreement.Machine.{Setup, leader_log, start}
+use Rattle.proof_deeds.specs.proof_agreement.Stores.{entry_at}
+use Rattle.proof_deeds.specs.proof_agreement.Stores as stores
+use Rattle.proof_deeds.specs.proof_agreement.LeaderNumbers.{leader_node}
+use Rattle.proof_deeds.proofs.proof_agreement_proofs.Invariants.{FollowsAt, IsPast}
+use Rattle.proof_deeds.proofs.proof_agreement_proofs.LeaderNumbers.{leader_node-number}
+use Rattle.proof_deeds.proofs.proof_agreement_proofs.StoresFollow.{StoreOk, StoresFollow}
+use Rattle.proof_deeds.specs.proof_mirror.Ready.{Shaped}
 use Rattle.proof_deeds.specs.Chains.{Reached}
 use Rattle.proof_deeds.specs.Follows.{StoreIs}
 use Rattle.proof_deeds.specs.Images.{Ideal, IdealEntry, IsNamed, IsWellFormedEntry, image, images, number, setup_of}

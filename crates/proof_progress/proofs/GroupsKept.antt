@@ -8,37 +8,37 @@ use Rattle.std.specs.Option.{option_or}
 use Rattle.std.specs.Ordering.{nat_cmp}
 use Rattle.std.proofs.lemmas.Cmp.{nat_cmp_total}
 use Rattle.std.proofs.lemmas.List.Elements.{All-contains, All-from_recursion, recursion_from_All}
-use Rattle.raft_state.specs.declared.ids.LogId.{LogId}
-use Rattle.raft_state.specs.declared.membership.Members.{Members}
-use Rattle.raft_state.specs.declared.membership.StoredMembership.{StoredMembership}
-use Rattle.raft_state.specs.Members.{group_of, no_members, placed_nodes}
-use Rattle.raft_state.specs.Same.{nat_same}
-use Rattle.raft_state.specs.Sorted.{has_id}
-use Rattle.raft_state.proofs.Voters.{voters_placed}
-use Rattle.raft_progress.proofs.Memberships.{group_of_ascending}
-use Rattle.raft_steps.specs.FollowingHandler.{memberships_in, stored_in}
-use Rattle.raft_store.specs.declared.entry.Entry.{Entry}
-use Rattle.raft_store.specs.declared.entry.Payload.{Payload}
-use Rattle.raft_store.specs.declared.entry.Payload.TheVariants.{Blank, Membership, Value}
-use Rattle.raft_store.specs.Entries.{entry_meaning}
-use Rattle.raft_store.specs.Mirror.{Mirrors, last_two, none}
-use Rattle.raft_store.specs.Store.{whole}
-use Rattle.raft_store.specs.Types.{EngineView, WorldLeader}
-use Rattle.proof_mirror.proofs.Ends.{Each, ends_each}
-use Rattle.raft_schedule.specs.declared.event.Event.{Event}
-use Rattle.raft_schedule.specs.declared.event.EventKind.{EventKind}
-use Rattle.raft_schedule.specs.declared.event.EventKind.TheVariants as kinds
-use Rattle.raft_schedule.specs.declared.event.SkipReason.{SkipReason}
-use Rattle.raft_schedule.specs.declared.event.SkipReason.TheVariants.{NotRunning}
-use Rattle.raft_node.specs.declared.act.Act.TheVariants.{ChangeLearners, Fail, Propose, Read, Restart, Stop}
-use Rattle.raft_node.specs.declared.given.Given.{Given}
-use Rattle.raft_node.specs.Events.{skip_reason}
-use Rattle.raft_calls.specs.Elections.{first_entry}
-use Rattle.raft_calls.specs.LeaderCalls.{skip_propose}
-use Rattle.raft_calls.specs.Memberships.{groups_in, members_with, skip_learners, skip_members, skip_pending}
-use Rattle.raft_node.specs.Net.{NodeView}
-use Rattle.raft_node.specs.Runs.{world_after}
-use Rattle.raft_node.specs.WellFormed.{IsWellFormed}
+use Rattle.proof_deeds.specs.raft_state.declared.ids.LogId.{LogId}
+use Rattle.proof_deeds.specs.raft_state.declared.membership.Members.{Members}
+use Rattle.proof_deeds.specs.raft_state.declared.membership.StoredMembership.{StoredMembership}
+use Rattle.proof_deeds.specs.raft_state.Members.{group_of, no_members, placed_nodes}
+use Rattle.proof_deeds.specs.raft_state.Same.{nat_same}
+use Rattle.proof_deeds.specs.raft_state.Sorted.{has_id}
+use Rattle.proof_deeds.proofs.raft_state_proofs.Voters.{voters_placed}
+use Rattle.proof_deeds.proofs.raft_progress_proofs.Memberships.{group_of_ascending}
+use Rattle.proof_deeds.specs.raft_steps.FollowingHandler.{memberships_in, stored_in}
+use Rattle.proof_deeds.specs.raft_store.declared.entry.Entry.{Entry}
+use Rattle.proof_deeds.specs.raft_store.declared.entry.Payload.{Payload}
+use Rattle.proof_deeds.specs.raft_store.declared.entry.Payload.TheVariants.{Blank, Membership, Value}
+use Rattle.proof_deeds.specs.raft_store.Entries.{entry_meaning}
+use Rattle.proof_deeds.specs.raft_store.Mirror.{Mirrors, last_two, none}
+use Rattle.proof_deeds.specs.raft_store.Store.{whole}
+use Rattle.proof_deeds.specs.raft_store.Types.{EngineView, WorldLeader}
+use Rattle.proof_deeds.proofs.proof_mirror_proofs.Ends.{Each, ends_each}
+use Rattle.proof_deeds.specs.raft_schedule.declared.event.Event.{Event}
+use Rattle.proof_deeds.specs.raft_schedule.declared.event.EventKind.{EventKind}
+use Rattle.proof_deeds.specs.raft_schedule.declared.event.EventKind.TheVariants as kinds
+use Rattle.proof_deeds.specs.raft_schedule.declared.event.SkipReason.{SkipReason}
+use Rattle.proof_deeds.specs.raft_schedule.declared.event.SkipReason.TheVariants.{NotRunning}
+use Rattle.proof_deeds.specs.raft_node.declared.act.Act.TheVariants.{ChangeLearners, Fail, Propose, Read, Restart, Stop}
+use Rattle.proof_deeds.specs.raft_node.declared.given.Given.{Given}
+use Rattle.proof_deeds.specs.raft_node.Events.{skip_reason}
+use Rattle.proof_deeds.specs.raft_calls.Elections.{first_entry}
+use Rattle.proof_deeds.specs.raft_calls.LeaderCalls.{skip_propose}
+use Rattle.proof_deeds.specs.raft_calls.Memberships.{groups_in, members_with, skip_learners, skip_members, skip_pending}
+use Rattle.proof_deeds.specs.raft_node.Net.{NodeView}
+use Rattle.proof_deeds.specs.raft_node.Runs.{world_after}
+use Rattle.proof_deeds.specs.raft_node.WellFormed.{IsWellFormed}
 use Rattle.proof_deeds.proofs.Proved.{after_mirrored}
 use Rattle.proof_progress.specs.Groups.{HasVoters, Keeps, LeavesVoters}
 use Rattle.proof_progress.proofs.EntriesKept.{NetOf, NodeOf, Proposing, run_keeps}

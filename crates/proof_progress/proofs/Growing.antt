@@ -8,36 +8,36 @@ use Rattle.std.specs.List.{AllByRecursion}
 use Rattle.std.specs.Map.{values_of}
 use Rattle.std.specs.Option.{option_to_list}
 use Rattle.std.specs.Ordering.{nat_cmp}
-use Rattle.raft_state.specs.declared.ids.LeaderId.{LeaderId}
-use Rattle.raft_state.specs.declared.ids.LogId.{LogId}
-use Rattle.raft_state.specs.Invariants.{first_index}
-use Rattle.raft_state.specs.LogLaws.{IsRun}
-use Rattle.raft_state.specs.Order.{next}
-use Rattle.raft_state.proofs.LogLists.{each_append}
-use Rattle.raft_command.specs.declared.command.Command.TheVariants as command
-use Rattle.raft_command.specs.declared.sm.CommandPayload.TheVariants as payload
-use Rattle.raft_command.specs.Queue.{popped}
-use Rattle.raft_steps.specs.Invariants.{IsSound}
-use Rattle.raft_store.specs.declared.entry.Entry.{Entry}
-use Rattle.raft_store.specs.Entries.{entry_meaning}
-use Rattle.raft_store.specs.Mirror.{ids_of, keyed, map_ids}
-use Rattle.raft_store.specs.Store as store
-use Rattle.raft_store.specs.Store.{past, put, whole}
-use Rattle.raft_store.specs.Types.{EngineView, WorldCommand, WorldPayload, WorldStore}
-use Rattle.raft_store.proofs.Lists.{Run, length_under, onward, onward_all, split, under, values_with}
-use Rattle.raft_calls.specs.Engines.{with_queue}
-use Rattle.raft_calls.specs.Feeds.{feed, feed_of}
-use Rattle.raft_node.specs.declared.given.Given.{Given}
-use Rattle.raft_node.specs.declared.node.Turn.{Turn}
-use Rattle.raft_node.specs.Execute.{Effects, exec}
-use Rattle.raft_node.specs.Runs.{whole_logs}
-use Rattle.raft_node.specs.Work.{Work, one_less, step_of, stopped, stops, work_step, worked}
-use Rattle.raft_node.proofs.Worked.{worked-keeps}
-use Rattle.proof_mirror.specs.Ready.{FitsBefore, MayPurge, MayPut, Ready, Shaped}
-use Rattle.proof_mirror.proofs.Purges.{purged_values}
-use Rattle.proof_mirror.proofs.Puts.{put_stored}
-use Rattle.proof_mirror.proofs.Shape.{past_keyed, run_of_ids}
-use Rattle.proof_agreement.specs.Machine.{Setup}
+use Rattle.proof_deeds.specs.raft_state.declared.ids.LeaderId.{LeaderId}
+use Rattle.proof_deeds.specs.raft_state.declared.ids.LogId.{LogId}
+use Rattle.proof_deeds.specs.raft_state.Invariants.{first_index}
+use Rattle.proof_deeds.specs.raft_state.LogLaws.{IsRun}
+use Rattle.proof_deeds.specs.raft_state.Order.{next}
+use Rattle.proof_deeds.proofs.raft_state_proofs.LogLists.{each_append}
+use Rattle.proof_deeds.specs.raft_command.declared.command.Command.TheVariants as command
+use Rattle.proof_deeds.specs.raft_command.declared.sm.CommandPayload.TheVariants as payload
+use Rattle.proof_deeds.specs.raft_command.Queue.{popped}
+use Rattle.proof_deeds.specs.raft_steps.Invariants.{IsSound}
+use Rattle.proof_deeds.specs.raft_store.declared.entry.Entry.{Entry}
+use Rattle.proof_deeds.specs.raft_store.Entries.{entry_meaning}
+use Rattle.proof_deeds.specs.raft_store.Mirror.{ids_of, keyed, map_ids}
+use Rattle.proof_deeds.specs.raft_store.Store as store
+use Rattle.proof_deeds.specs.raft_store.Store.{past, put, whole}
+use Rattle.proof_deeds.specs.raft_store.Types.{EngineView, WorldCommand, WorldPayload, WorldStore}
+use Rattle.proof_deeds.proofs.raft_store_proofs.Lists.{Run, length_under, onward, onward_all, split, under, values_with}
+use Rattle.proof_deeds.specs.raft_calls.Engines.{with_queue}
+use Rattle.proof_deeds.specs.raft_calls.Feeds.{feed, feed_of}
+use Rattle.proof_deeds.specs.raft_node.declared.given.Given.{Given}
+use Rattle.proof_deeds.specs.raft_node.declared.node.Turn.{Turn}
+use Rattle.proof_deeds.specs.raft_node.Execute.{Effects, exec}
+use Rattle.proof_deeds.specs.raft_node.Runs.{whole_logs}
+use Rattle.proof_deeds.specs.raft_node.Work.{Work, one_less, step_of, stopped, stops, work_step, worked}
+use Rattle.proof_deeds.proofs.raft_node_proofs.Worked.{worked-keeps}
+use Rattle.proof_deeds.specs.proof_mirror.Ready.{FitsBefore, MayPurge, MayPut, Ready, Shaped}
+use Rattle.proof_deeds.proofs.proof_mirror_proofs.Purges.{purged_values}
+use Rattle.proof_deeds.proofs.proof_mirror_proofs.Puts.{put_stored}
+use Rattle.proof_deeds.proofs.proof_mirror_proofs.Shape.{past_keyed, run_of_ids}
+use Rattle.proof_deeds.specs.proof_agreement.Machine.{Setup}
 use Rattle.proof_deeds.specs.Chains.{Chain, left_by, stored}
 use Rattle.proof_deeds.specs.Images.{Ideal, number, setup_of}
 use Rattle.proof_deeds.proofs.AllLaws.{all_laws}

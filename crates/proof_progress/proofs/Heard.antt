@@ -6,31 +6,31 @@ use Rattle.std.specs.Cmp.{tied_itself}
 use Rattle.std.specs.Ordering.{bool_cmp, is_eq, is_gt, is_le, is_lt, nat_cmp, ordering_then}
 use Rattle.std.proofs.lemmas.Bool.Decides.{nat_tests}
 use Rattle.std.proofs.lemmas.Cmp.{nat_cmp_total}
-use Rattle.raft_state.specs.declared.ids.LeaderId.{LeaderId}
-use Rattle.raft_state.specs.declared.ids.LogId.{LogId}
-use Rattle.raft_state.specs.declared.ids.Vote.{Vote}
-use Rattle.raft_state.specs.declared.membership.StoredMembership.{StoredMembership}
-use Rattle.raft_state.specs.Log.{last}
-use Rattle.raft_state.specs.Members.{contains, voter_ids}
-use Rattle.raft_state.specs.Order.{last_id_cmp, leader_id_cmp, next, vote_cmp}
-use Rattle.raft_state.specs.Same.{nat_same}
-use Rattle.raft_state.proofs.Orders.{and_both, is_equal, is_less, last_total, le_lt, le_of_not_lt, leader_total, lt_le, lt_of_gt}
-use Rattle.raft_progress.specs.Quorum.{is_quorum}
-use Rattle.raft_command.specs.declared.config.EngineConfig.{EngineConfig}
-use Rattle.raft_command.specs.declared.replication.ReplicationSessionId.{ReplicationSessionId}
-use Rattle.raft_proposer.specs.Joint.{u64_max}
-use Rattle.raft_steps.specs.VoteHandler.{rejects_vote}
-use Rattle.raft_store.specs.declared.entry.Entry.{Entry}
-use Rattle.raft_store.specs.Types.{EngineView}
-use Rattle.raft_schedule.specs.declared.event.Event.{Event}
-use Rattle.raft_node.specs.declared.given.Given.{Given}
-use Rattle.raft_calls.specs.declared.message.Message.{Message}
-use Rattle.raft_node.specs.Events.{happens, message_at, with_answer}
-use Rattle.raft_calls.specs.Deliveries.{session_of}
-use Rattle.raft_node.specs.Net.{Net, NodeView, Records}
-use Rattle.raft_node.specs.Runs.{whole_logs, world_after}
-use Rattle.raft_node.specs.Work.{weight}
-use Rattle.raft_node.specs.WellFormed.{IsWellFormed}
+use Rattle.proof_deeds.specs.raft_state.declared.ids.LeaderId.{LeaderId}
+use Rattle.proof_deeds.specs.raft_state.declared.ids.LogId.{LogId}
+use Rattle.proof_deeds.specs.raft_state.declared.ids.Vote.{Vote}
+use Rattle.proof_deeds.specs.raft_state.declared.membership.StoredMembership.{StoredMembership}
+use Rattle.proof_deeds.specs.raft_state.Log.{last}
+use Rattle.proof_deeds.specs.raft_state.Members.{contains, voter_ids}
+use Rattle.proof_deeds.specs.raft_state.Order.{last_id_cmp, leader_id_cmp, next, vote_cmp}
+use Rattle.proof_deeds.specs.raft_state.Same.{nat_same}
+use Rattle.proof_deeds.proofs.raft_state_proofs.Orders.{and_both, is_equal, is_less, last_total, le_lt, le_of_not_lt, leader_total, lt_le, lt_of_gt}
+use Rattle.proof_deeds.specs.raft_progress.Quorum.{is_quorum}
+use Rattle.proof_deeds.specs.raft_command.declared.config.EngineConfig.{EngineConfig}
+use Rattle.proof_deeds.specs.raft_command.declared.replication.ReplicationSessionId.{ReplicationSessionId}
+use Rattle.proof_deeds.specs.raft_proposer.Joint.{u64_max}
+use Rattle.proof_deeds.specs.raft_steps.VoteHandler.{rejects_vote}
+use Rattle.proof_deeds.specs.raft_store.declared.entry.Entry.{Entry}
+use Rattle.proof_deeds.specs.raft_store.Types.{EngineView}
+use Rattle.proof_deeds.specs.raft_schedule.declared.event.Event.{Event}
+use Rattle.proof_deeds.specs.raft_node.declared.given.Given.{Given}
+use Rattle.proof_deeds.specs.raft_calls.declared.message.Message.{Message}
+use Rattle.proof_deeds.specs.raft_node.Events.{happens, message_at, with_answer}
+use Rattle.proof_deeds.specs.raft_calls.Deliveries.{session_of}
+use Rattle.proof_deeds.specs.raft_node.Net.{Net, NodeView, Records}
+use Rattle.proof_deeds.specs.raft_node.Runs.{whole_logs, world_after}
+use Rattle.proof_deeds.specs.raft_node.Work.{weight}
+use Rattle.proof_deeds.specs.raft_node.WellFormed.{IsWellFormed}
 use Rattle.proof_deeds.specs.Chains.{IsClaimed}
 use Rattle.proof_deeds.specs.Images.{number, setup_of}
 use Rattle.proof_deeds.specs.Nets.{NodeFollows}
@@ -39,9 +39,9 @@ use Rattle.proof_deeds.proofs.Numbers.{number_below}
 use Rattle.proof_deeds.proofs.Promised.{one_of}
 use Rattle.proof_deeds.proofs.Nodes.{each_at as each_slot}
 use Rattle.proof_deeds.proofs.Proved.{after_resting, followed}
-use Rattle.raft_node.specs.Held.{IsAtRest}
-use Rattle.raft_calls.specs.Held.{IsRestingWhereRunning}
-use Rattle.raft_state.specs.Invariants.{IsSoundState, IsUnder}
+use Rattle.proof_deeds.specs.raft_node.Held.{IsAtRest}
+use Rattle.proof_deeds.specs.raft_calls.Held.{IsRestingWhereRunning}
+use Rattle.proof_deeds.specs.raft_state.Invariants.{IsSoundState, IsUnder}
 use Rattle.std.proofs.lemmas.List.Elements.{All-contains}
 use Rattle.std.specs.Prelude.{Contains}
 use Rattle.proof_progress.specs.Choices.{AsksFirst, HasRoom, IsChoice, IsElected, MayFollow, MayHear, WorldsElect, engine_at_start, leads_by_store}

@@ -5,15 +5,15 @@ use Rattle.std.specs.Option.{option_map}
 use Rattle.std.specs.Prelude.{find}
 use Rattle.std.specs.Ordering.{nat_cmp}
 use Rattle.std.proofs.lemmas.Bool.{true≢false}
-use Rattle.raft_state.specs.Same.{nat_same}
-use Rattle.raft_state.proofs.Orders.{is_equal}
-use Rattle.raft_progress.specs.Table.{is_row_of, row_of}
-use Rattle.proof_agreement.specs.Machine.{Agree, Includes, Setup, World, leader_log, log_of}
-use Rattle.proof_agreement.specs.Stores.{Accepted, Append, AppendRequest, Stores, whole}
-use Rattle.proof_agreement.specs.Deeds.{HasAccepted, Holds, Names}
-use Rattle.proof_agreement.proofs.Invariants.{Contradicts, DecidedPast, MayLack, limit, limit_of}
-use Rattle.proof_agreement.proofs.LogDeeds.{named}
-use Rattle.proof_agreement.proofs.StoresFollow.{AcceptedOk, AppendRequestOk, StoreOk, StoresFollow}
+use Rattle.proof_deeds.specs.raft_state.Same.{nat_same}
+use Rattle.proof_deeds.proofs.raft_state_proofs.Orders.{is_equal}
+use Rattle.proof_deeds.specs.raft_progress.Table.{is_row_of, row_of}
+use Rattle.proof_deeds.specs.proof_agreement.Machine.{Agree, Includes, Setup, World, leader_log, log_of}
+use Rattle.proof_deeds.specs.proof_agreement.Stores.{Accepted, Append, AppendRequest, Stores, whole}
+use Rattle.proof_deeds.specs.proof_agreement.Deeds.{HasAccepted, Holds, Names}
+use Rattle.proof_deeds.proofs.proof_agreement_proofs.Invariants.{Contradicts, DecidedPast, MayLack, limit, limit_of}
+use Rattle.proof_deeds.proofs.proof_agreement_proofs.LogDeeds.{named}
+use Rattle.proof_deeds.proofs.proof_agreement_proofs.StoresFollow.{AcceptedOk, AppendRequestOk, StoreOk, StoresFollow}
 
 -- In a reached world of stores, where groups may change: a node whose vote isn't above a leader's holds what it accepted of it
 module _ {A : Type 0} (s : Setup A) (changing : s.groups_kept ≡ false) (since : World A) (W : Stores A) (K : StoresFollow s since W) where

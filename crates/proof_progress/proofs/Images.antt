@@ -1,25 +1,25 @@
 -- What an election makes of the engines that take part in it, each as one record.
 use Rattle.std.specs.Prelude.{Bool, ℕ, false, true, List, [], ◌∷◌, None, Some}
 use Rattle.std.specs.Ordering.{nat_cmp}
-use Rattle.raft_state.specs.declared.ids.LeaderId.{LeaderId}
-use Rattle.raft_state.specs.declared.ids.Vote.{Vote}
-use Rattle.raft_state.specs.declared.state.RaftState.{RaftState}
-use Rattle.raft_state.specs.State.{server_state}
-use Rattle.raft_command.specs.declared.message.VoteResponse.{VoteResponse}
-use Rattle.raft_state.specs.declared.state.ServerState.TheVariants.{Candidate, Leader}
-use Rattle.raft_state.specs.Log.{last}
-use Rattle.raft_command.specs.declared.command.Command.TheVariants.{QuitLeader, SaveVote, SendVote}
-use Rattle.raft_command.specs.declared.message.VoteRequest.{VoteRequest}
-use Rattle.raft_proposer.specs.Candidate.{candidate_of, grant_by}
-use Rattle.raft_store.specs.Types.{EngineView, WorldCandidate, WorldCommand}
-use Rattle.raft_node.specs.Net.{NodeView, no_streams}
-use Rattle.raft_node.specs.declared.node.Streams.{Streams}
-use Rattle.raft_state.specs.declared.state.ServerState.{ServerState}
-use Rattle.raft_command.specs.declared.config.EngineConfig.{EngineConfig}
-use Rattle.raft_steps.specs.Parts.{idle}
-use Rattle.raft_steps.specs.Starts.{started_role}
-use Rattle.raft_store.specs.Entries.{entry_meaning}
-use Rattle.raft_store.specs.Restart.{started}
+use Rattle.proof_deeds.specs.raft_state.declared.ids.LeaderId.{LeaderId}
+use Rattle.proof_deeds.specs.raft_state.declared.ids.Vote.{Vote}
+use Rattle.proof_deeds.specs.raft_state.declared.state.RaftState.{RaftState}
+use Rattle.proof_deeds.specs.raft_state.State.{server_state}
+use Rattle.proof_deeds.specs.raft_command.declared.message.VoteResponse.{VoteResponse}
+use Rattle.proof_deeds.specs.raft_state.declared.state.ServerState.TheVariants.{Candidate, Leader}
+use Rattle.proof_deeds.specs.raft_state.Log.{last}
+use Rattle.proof_deeds.specs.raft_command.declared.command.Command.TheVariants.{QuitLeader, SaveVote, SendVote}
+use Rattle.proof_deeds.specs.raft_command.declared.message.VoteRequest.{VoteRequest}
+use Rattle.proof_deeds.specs.raft_proposer.Candidate.{candidate_of, grant_by}
+use Rattle.proof_deeds.specs.raft_store.Types.{EngineView, WorldCandidate, WorldCommand}
+use Rattle.proof_deeds.specs.raft_node.Net.{NodeView, no_streams}
+use Rattle.proof_deeds.specs.raft_node.declared.node.Streams.{Streams}
+use Rattle.proof_deeds.specs.raft_state.declared.state.ServerState.{ServerState}
+use Rattle.proof_deeds.specs.raft_command.declared.config.EngineConfig.{EngineConfig}
+use Rattle.proof_deeds.specs.raft_steps.Parts.{idle}
+use Rattle.proof_deeds.specs.raft_steps.Starts.{started_role}
+use Rattle.proof_deeds.specs.raft_store.Entries.{entry_meaning}
+use Rattle.proof_deeds.specs.raft_store.Restart.{started}
 use Rattle.proof_progress.specs.Elections.{asked_id, pending}
 
 -- the vote that an engine asks for next

@@ -7,27 +7,27 @@ use Rattle.std.specs.Option.{option_to_list}
 use Rattle.std.specs.Ordering.{is_gt, nat_cmp}
 use Rattle.std.proofs.lemmas.Bool.Decides.{nat_tests}
 use Rattle.std.proofs.lemmas.List.Elements.{All-contains, All-from_recursion}
-use Rattle.raft_state.specs.declared.ids.LogId.{LogId}
-use Rattle.raft_state.specs.declared.membership.StoredMembership.{StoredMembership}
-use Rattle.raft_state.specs.Log.{last}
-use Rattle.raft_state.specs.Order.{leader_id_cmp, next}
-use Rattle.raft_state.specs.Sorted.{IsSound}
-use Rattle.raft_state.proofs.LogLists.{each_append}
-use Rattle.raft_steps.specs.FollowingHandler.{memberships_in}
-use Rattle.raft_store.specs.declared.entry.Entry.{Entry}
-use Rattle.raft_store.specs.Entries.{entry_meaning}
-use Rattle.raft_store.specs.Mirror.{Mirrors, ids_of, last_two}
-use Rattle.raft_store.specs.Store.{past, whole}
-use Rattle.raft_store.specs.Types.{WorldStore}
-use Rattle.proof_mirror.specs.Ready.{Shaped}
-use Rattle.raft_schedule.specs.declared.event.Event.{Event}
-use Rattle.raft_node.specs.declared.given.Given.{Given}
-use Rattle.raft_calls.specs.Elections.{first_entry}
-use Rattle.raft_node.specs.Events.{happens}
-use Rattle.raft_node.specs.Net.{Net, NodeView}
-use Rattle.raft_node.specs.Runs.{whole_logs, world_after}
-use Rattle.raft_node.specs.WellFormed.{IsWellFormed}
-use Rattle.raft_node.specs.Work.{weight}
+use Rattle.proof_deeds.specs.raft_state.declared.ids.LogId.{LogId}
+use Rattle.proof_deeds.specs.raft_state.declared.membership.StoredMembership.{StoredMembership}
+use Rattle.proof_deeds.specs.raft_state.Log.{last}
+use Rattle.proof_deeds.specs.raft_state.Order.{leader_id_cmp, next}
+use Rattle.proof_deeds.specs.raft_state.Sorted.{IsSound}
+use Rattle.proof_deeds.proofs.raft_state_proofs.LogLists.{each_append}
+use Rattle.proof_deeds.specs.raft_steps.FollowingHandler.{memberships_in}
+use Rattle.proof_deeds.specs.raft_store.declared.entry.Entry.{Entry}
+use Rattle.proof_deeds.specs.raft_store.Entries.{entry_meaning}
+use Rattle.proof_deeds.specs.raft_store.Mirror.{Mirrors, ids_of, last_two}
+use Rattle.proof_deeds.specs.raft_store.Store.{past, whole}
+use Rattle.proof_deeds.specs.raft_store.Types.{WorldStore}
+use Rattle.proof_deeds.specs.proof_mirror.Ready.{Shaped}
+use Rattle.proof_deeds.specs.raft_schedule.declared.event.Event.{Event}
+use Rattle.proof_deeds.specs.raft_node.declared.given.Given.{Given}
+use Rattle.proof_deeds.specs.raft_calls.Elections.{first_entry}
+use Rattle.proof_deeds.specs.raft_node.Events.{happens}
+use Rattle.proof_deeds.specs.raft_node.Net.{Net, NodeView}
+use Rattle.proof_deeds.specs.raft_node.Runs.{whole_logs, world_after}
+use Rattle.proof_deeds.specs.raft_node.WellFormed.{IsWellFormed}
+use Rattle.proof_deeds.specs.raft_node.Work.{weight}
 use Rattle.proof_deeds.specs.Images.{setup_of}
 use Rattle.proof_deeds.specs.Nets.{AllApart, NodeFollows}
 use Rattle.proof_deeds.proofs.AppendFitting.{Settled}
@@ -36,7 +36,7 @@ use Rattle.proof_deeds.proofs.Nodes.{each_both}
 use Rattle.proof_deeds.proofs.Promised.{begins, one_of}
 use Rattle.proof_deeds.proofs.Proved.{after_mirrored, followed}
 use Rattle.proof_deeds.proofs.Worlds.{each_on}
-use Rattle.proof_agreement.specs.Machine.{Setup}
+use Rattle.proof_deeds.specs.proof_agreement.Machine.{Setup}
 use Rattle.proof_progress.specs.Choices.{DeposedHear, HearsOf, IsChoice, IsUndisputed, KeptWorldsLead, MayFollow, MayHear, StartsWithGroups, VotesUpTo, WorldsChoose, engine_at_start, leads_by_store}
 use Rattle.proof_progress.specs.Continuations.{At, restart}
 use Rattle.proof_progress.specs.Elections.{Listed}

@@ -3,29 +3,29 @@ use Rattle.std.proofs.Common.{ℕ, ◌+◌, ◌≡◌, Bool, true, false, List, 
 use Rattle.std.specs.Prelude.{if◌then◌else◌}
 use Rattle.std.specs.List.{AllByRecursion}
 use Rattle.std.specs.Ordering.{is_eq, is_ge, is_le, nat_cmp}
-use Rattle.raft_state.specs.declared.ids.LogId.{LogId}
-use Rattle.raft_state.specs.declared.state.RaftState.{RaftState}
-use Rattle.raft_state.specs.Order.{last_id_cmp, leader_id_cmp}
-use Rattle.raft_state.specs.Policy.{should_snapshot}
-use Rattle.raft_state.specs.State.{commit, commits, settle}
-use Rattle.raft_state.proofs.LogLists.{each_append}
-use Rattle.raft_progress.specs.Table.{get}
-use Rattle.raft_progress.specs.Quorum.{is_quorum}
-use Rattle.raft_progress_entry.specs.declared.entry.ProgressEntry.{ProgressEntry}
-use Rattle.raft_proposer.specs.Leader.{granted_id}
-use Rattle.raft_command.specs.declared.config.EngineConfig.{EngineConfig}
-use Rattle.raft_command.specs.declared.command.Command.TheVariants.{Commit, QuitLeader, ReplicateCommitted}
-use Rattle.raft_command.specs.declared.sm.CommandPayload.TheVariants.{BuildSnapshot}
-use Rattle.raft_command.specs.Push.{committed_upto, ordered}
-use Rattle.raft_command.specs.Queue.{queued}
-use Rattle.raft_steps.specs.Commit.{commit_by}
-use Rattle.raft_steps.specs.Parts.{Core}
-use Rattle.raft_steps.specs.ReplicationHandler.{commit_granted, own_matched, try_commit_quorum_accepted, update_local_progress, with_entry}
-use Rattle.raft_steps.specs.SnapshotHandler.{snapshot_where_due, trigger_snapshot}
-use Rattle.raft_store.specs.declared.config.WorldConfig.{WorldConfig}
-use Rattle.raft_store.specs.declared.entry.Entry.{Entry}
-use Rattle.raft_store.specs.Types.{WorldCommand}
-use Rattle.raft_calls.specs.Feeds.{WorldLed}
+use Rattle.proof_deeds.specs.raft_state.declared.ids.LogId.{LogId}
+use Rattle.proof_deeds.specs.raft_state.declared.state.RaftState.{RaftState}
+use Rattle.proof_deeds.specs.raft_state.Order.{last_id_cmp, leader_id_cmp}
+use Rattle.proof_deeds.specs.raft_state.Policy.{should_snapshot}
+use Rattle.proof_deeds.specs.raft_state.State.{commit, commits, settle}
+use Rattle.proof_deeds.proofs.raft_state_proofs.LogLists.{each_append}
+use Rattle.proof_deeds.specs.raft_progress.Table.{get}
+use Rattle.proof_deeds.specs.raft_progress.Quorum.{is_quorum}
+use Rattle.proof_deeds.specs.raft_progress_entry.declared.entry.ProgressEntry.{ProgressEntry}
+use Rattle.proof_deeds.specs.raft_proposer.Leader.{granted_id}
+use Rattle.proof_deeds.specs.raft_command.declared.config.EngineConfig.{EngineConfig}
+use Rattle.proof_deeds.specs.raft_command.declared.command.Command.TheVariants.{Commit, QuitLeader, ReplicateCommitted}
+use Rattle.proof_deeds.specs.raft_command.declared.sm.CommandPayload.TheVariants.{BuildSnapshot}
+use Rattle.proof_deeds.specs.raft_command.Push.{committed_upto, ordered}
+use Rattle.proof_deeds.specs.raft_command.Queue.{queued}
+use Rattle.proof_deeds.specs.raft_steps.Commit.{commit_by}
+use Rattle.proof_deeds.specs.raft_steps.Parts.{Core}
+use Rattle.proof_deeds.specs.raft_steps.ReplicationHandler.{commit_granted, own_matched, try_commit_quorum_accepted, update_local_progress, with_entry}
+use Rattle.proof_deeds.specs.raft_steps.SnapshotHandler.{snapshot_where_due, trigger_snapshot}
+use Rattle.proof_deeds.specs.raft_store.declared.config.WorldConfig.{WorldConfig}
+use Rattle.proof_deeds.specs.raft_store.declared.entry.Entry.{Entry}
+use Rattle.proof_deeds.specs.raft_store.Types.{WorldCommand}
+use Rattle.proof_deeds.specs.raft_calls.Feeds.{WorldLed}
 
 abbrev pub WorldState : Type 0
 WorldState = RaftState ℕ (Unit {0})

@@ -2,42 +2,42 @@
 use Rattle.std.proofs.Common.{ℕ, ◌+◌, ◌≤◌, ◌≡◌, ◌⊎◌, inl, inr, false, List, [], ◌∷◌, ◌++◌, length, arith, refl, sym, ap, ◌∙◌, subst, Option, None, Some, Result}
 use Rattle.std.specs.List.{AllByRecursion}
 use Rattle.std.specs.Ordering.{nat_cmp}
-use Rattle.raft_progress_entry.specs.declared.entry.Inflight.TheVariants as inflight
-use Rattle.raft_progress_entry.specs.declared.entry.ProgressEntry.{ProgressEntry}
-use Rattle.raft_error.specs.declared.error.EngineError.{EngineError}
-use Rattle.raft_progress_entry.specs.Entry.{next_send, sent}
-use Rattle.raft_progress.specs.Table.{get}
-use Rattle.raft_command.specs.declared.command.Command.TheVariants.{Replicate}
-use Rattle.raft_command.specs.declared.replication.ReplicationResult.{ReplicationResult}
-use Rattle.raft_command.specs.declared.replication.RequestId.{RequestId}
-use Rattle.raft_steps.specs.Parts.{leading, led_of}
-use Rattle.raft_steps.specs.Replies.{purge_unless_inflight, send_next, take_reply, update_progress}
-use Rattle.raft_steps.specs.ReplyRefusals.{refusals_of_progress}
-use Rattle.raft_store.specs.declared.entry.Entry.{Entry}
-use Rattle.raft_store.specs.Types.{EngineView, WorldCommand, WorldLeader}
-use Rattle.raft_schedule.specs.declared.event.Event.{Event}
-use Rattle.raft_node.specs.declared.act.Act.{Act}
-use Rattle.raft_node.specs.declared.act.Aim.{Aim}
-use Rattle.raft_node.specs.declared.given.Given.{Given}
-use Rattle.raft_calls.specs.declared.message.Message.{Message}
-use Rattle.raft_node.specs.declared.node.Turn.{Turn}
-use Rattle.raft_calls.specs.Deliveries.{answered as call_answered, progressed, unled_number, with_machine}
-use Rattle.raft_node.specs.Events.{aim_of, answer_at, calls_at, happens, message_at, moment_of, on_engine, skip_reason, turn_of}
-use Rattle.raft_node.specs.Execute.{heartbeat, replication, sending}
-use Rattle.raft_calls.specs.Feeds.{WorldLed}
-use Rattle.raft_node.specs.Net.{Net, NodeView}
-use Rattle.raft_node.specs.Runs.{whole_logs}
-use Rattle.raft_node.specs.Work.{weight, worked}
+use Rattle.proof_deeds.specs.raft_progress_entry.declared.entry.Inflight.TheVariants as inflight
+use Rattle.proof_deeds.specs.raft_progress_entry.declared.entry.ProgressEntry.{ProgressEntry}
+use Rattle.proof_deeds.specs.raft_error.declared.error.EngineError.{EngineError}
+use Rattle.proof_deeds.specs.raft_progress_entry.Entry.{next_send, sent}
+use Rattle.proof_deeds.specs.raft_progress.Table.{get}
+use Rattle.proof_deeds.specs.raft_command.declared.command.Command.TheVariants.{Replicate}
+use Rattle.proof_deeds.specs.raft_command.declared.replication.ReplicationResult.{ReplicationResult}
+use Rattle.proof_deeds.specs.raft_command.declared.replication.RequestId.{RequestId}
+use Rattle.proof_deeds.specs.raft_steps.Parts.{leading, led_of}
+use Rattle.proof_deeds.specs.raft_steps.Replies.{purge_unless_inflight, send_next, take_reply, update_progress}
+use Rattle.proof_deeds.specs.raft_steps.ReplyRefusals.{refusals_of_progress}
+use Rattle.proof_deeds.specs.raft_store.declared.entry.Entry.{Entry}
+use Rattle.proof_deeds.specs.raft_store.Types.{EngineView, WorldCommand, WorldLeader}
+use Rattle.proof_deeds.specs.raft_schedule.declared.event.Event.{Event}
+use Rattle.proof_deeds.specs.raft_node.declared.act.Act.{Act}
+use Rattle.proof_deeds.specs.raft_node.declared.act.Aim.{Aim}
+use Rattle.proof_deeds.specs.raft_node.declared.given.Given.{Given}
+use Rattle.proof_deeds.specs.raft_calls.declared.message.Message.{Message}
+use Rattle.proof_deeds.specs.raft_node.declared.node.Turn.{Turn}
+use Rattle.proof_deeds.specs.raft_calls.Deliveries.{answered as call_answered, progressed, unled_number, with_machine}
+use Rattle.proof_deeds.specs.raft_node.Events.{aim_of, answer_at, calls_at, happens, message_at, moment_of, on_engine, skip_reason, turn_of}
+use Rattle.proof_deeds.specs.raft_node.Execute.{heartbeat, replication, sending}
+use Rattle.proof_deeds.specs.raft_calls.Feeds.{WorldLed}
+use Rattle.proof_deeds.specs.raft_node.Net.{Net, NodeView}
+use Rattle.proof_deeds.specs.raft_node.Runs.{whole_logs}
+use Rattle.proof_deeds.specs.raft_node.Work.{weight, worked}
 use Rattle.proof_progress.specs.Elections.{Listed}
 use Rattle.proof_progress.specs.Exchanges.{IsLeft, LeadsAt, led}
-use Rattle.raft_steps.proofs.LawsQueue.{append_none}
+use Rattle.proof_deeds.proofs.raft_steps_proofs.LawsQueue.{append_none}
 use Rattle.proof_progress.proofs.Campaigns.{at_id, message_last}
 use Rattle.proof_progress.proofs.LedQueue.{IsLedCommand, LedQueues, SendsLast, Tells, before_sent, sends_last, tells_before}
 use Rattle.proof_progress.proofs.Places.{Changed, changes}
 use Rattle.proof_progress.proofs.Plays.{node_after, plays, work_begins}
 use Rattle.proof_progress.proofs.Works.{Effected, at_work, queueing}
 use Rattle.proof_progress.proofs.WorksOff.{all_streams_stay, bag_grows, each_feeds, exec_both, exec_each, led_feeds, left_by_all, message_stays, request_sent, tells_sent, works_off}
-use Rattle.raft_state.proofs.LogLists.{each_append}
+use Rattle.proof_deeds.proofs.raft_state_proofs.LogLists.{each_append}
 
 module _ (e : EngineView) (l : WorldLeader) (target : ℕ) (id : RequestId) (result : Result (ReplicationResult ℕ) (Unit {0})) where
   -- the engine's leader after it has handled the reply

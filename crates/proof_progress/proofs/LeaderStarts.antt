@@ -8,42 +8,42 @@ use Rattle.std.specs.Prelude.{slice_get}
 use Rattle.std.proofs.Common.{arith, length}
 use Rattle.std.proofs.lemmas.Cmp.{nat_cmp_total}
 use Rattle.std.proofs.lemmas.List.{length-append}
-use Rattle.raft_state.specs.declared.ids.LeaderId.{LeaderId}
-use Rattle.raft_state.specs.Same.{leader_id_same, nat_same}
-use Rattle.raft_state.proofs.Orders.{is_equal, last_total}
-use Rattle.raft_state.specs.declared.ids.LogId.{LogId}
-use Rattle.raft_state.specs.declared.ids.Vote.{Vote}
-use Rattle.raft_state.specs.declared.state.ServerState.TheVariants.{Leader, Learner}
-use Rattle.raft_state.specs.Log.{last}
-use Rattle.raft_state.specs.Order.{last_id_cmp, leader_id_cmp, next}
-use Rattle.raft_state.specs.State.{by_last_leader, is_leader, server_state}
-use Rattle.raft_state.proofs.LogLists.{each_append}
-use Rattle.raft_progress_entry.specs.declared.entry.Inflight.{Inflight}
-use Rattle.raft_progress_entry.specs.declared.entry.Inflight.TheVariants as inflight
-use Rattle.raft_progress_entry.specs.declared.entry.ProgressEntry.{ProgressEntry}
-use Rattle.raft_progress_entry.specs.Entry.{next_send}
-use Rattle.raft_error.specs.declared.error.EngineError.{EngineError}
-use Rattle.raft_error.specs.declared.error.EngineError.TheVariants.{IndexEnd}
-use Rattle.raft_error.specs.Number.{first_refusal}
-use Rattle.raft_proposer.specs.Joint.{u64_max}
-use Rattle.raft_proposer.specs.Leader.{blank_id, leader_in}
-use Rattle.raft_command.specs.declared.config.EngineConfig.{EngineConfig}
-use Rattle.raft_command.specs.declared.command.Command.TheVariants.{BecomeLeader, RebuildReplicationStreams}
-use Rattle.raft_steps.specs.LeaderHandler.{leader_append_entries, proposed}
-use Rattle.raft_steps.specs.Parts.{idle, leading, on_leader, under}
-use Rattle.raft_steps.specs.ReplicationHandler.{initiate_replication, is_other, rebuild_replication_streams, send_commands, sends_of, update_local_progress}
-use Rattle.raft_steps.specs.ServerStateHandler.{role_commands, update_role}
-use Rattle.raft_steps.proofs.Ends.{by_last_leader_ends}
-use Rattle.raft_steps.specs.Room.{is_full, leads_anew}
-use Rattle.raft_steps.specs.Starts.{lead_on, refusals_of_startup, started_role, startup}
-use Rattle.raft_steps.specs.VoteHandler.{become_leader, begin_lead, lead_anew, update_internal_server_state}
-use Rattle.raft_store.specs.Entries.{entry_meaning}
-use Rattle.raft_store.specs.Restart.{is_outrun, settled_by, started}
-use Rattle.raft_store.specs.Types.{EngineView, WorldCommand, WorldLeader, WorldMachine, WorldStore}
-use Rattle.raft_calls.specs.Deliveries.{answered, with_machine}
-use Rattle.raft_calls.specs.Feeds.{WorldLed}
-use Rattle.raft_node.specs.Net.{NodeView}
-use Rattle.raft_node.specs.Starts.{engine_on}
+use Rattle.proof_deeds.specs.raft_state.declared.ids.LeaderId.{LeaderId}
+use Rattle.proof_deeds.specs.raft_state.Same.{leader_id_same, nat_same}
+use Rattle.proof_deeds.proofs.raft_state_proofs.Orders.{is_equal, last_total}
+use Rattle.proof_deeds.specs.raft_state.declared.ids.LogId.{LogId}
+use Rattle.proof_deeds.specs.raft_state.declared.ids.Vote.{Vote}
+use Rattle.proof_deeds.specs.raft_state.declared.state.ServerState.TheVariants.{Leader, Learner}
+use Rattle.proof_deeds.specs.raft_state.Log.{last}
+use Rattle.proof_deeds.specs.raft_state.Order.{last_id_cmp, leader_id_cmp, next}
+use Rattle.proof_deeds.specs.raft_state.State.{by_last_leader, is_leader, server_state}
+use Rattle.proof_deeds.proofs.raft_state_proofs.LogLists.{each_append}
+use Rattle.proof_deeds.specs.raft_progress_entry.declared.entry.Inflight.{Inflight}
+use Rattle.proof_deeds.specs.raft_progress_entry.declared.entry.Inflight.TheVariants as inflight
+use Rattle.proof_deeds.specs.raft_progress_entry.declared.entry.ProgressEntry.{ProgressEntry}
+use Rattle.proof_deeds.specs.raft_progress_entry.Entry.{next_send}
+use Rattle.proof_deeds.specs.raft_error.declared.error.EngineError.{EngineError}
+use Rattle.proof_deeds.specs.raft_error.declared.error.EngineError.TheVariants.{IndexEnd}
+use Rattle.proof_deeds.specs.raft_error.Number.{first_refusal}
+use Rattle.proof_deeds.specs.raft_proposer.Joint.{u64_max}
+use Rattle.proof_deeds.specs.raft_proposer.Leader.{blank_id, leader_in}
+use Rattle.proof_deeds.specs.raft_command.declared.config.EngineConfig.{EngineConfig}
+use Rattle.proof_deeds.specs.raft_command.declared.command.Command.TheVariants.{BecomeLeader, RebuildReplicationStreams}
+use Rattle.proof_deeds.specs.raft_steps.LeaderHandler.{leader_append_entries, proposed}
+use Rattle.proof_deeds.specs.raft_steps.Parts.{idle, leading, on_leader, under}
+use Rattle.proof_deeds.specs.raft_steps.ReplicationHandler.{initiate_replication, is_other, rebuild_replication_streams, send_commands, sends_of, update_local_progress}
+use Rattle.proof_deeds.specs.raft_steps.ServerStateHandler.{role_commands, update_role}
+use Rattle.proof_deeds.proofs.raft_steps_proofs.Ends.{by_last_leader_ends}
+use Rattle.proof_deeds.specs.raft_steps.Room.{is_full, leads_anew}
+use Rattle.proof_deeds.specs.raft_steps.Starts.{lead_on, refusals_of_startup, started_role, startup}
+use Rattle.proof_deeds.specs.raft_steps.VoteHandler.{become_leader, begin_lead, lead_anew, update_internal_server_state}
+use Rattle.proof_deeds.specs.raft_store.Entries.{entry_meaning}
+use Rattle.proof_deeds.specs.raft_store.Restart.{is_outrun, settled_by, started}
+use Rattle.proof_deeds.specs.raft_store.Types.{EngineView, WorldCommand, WorldLeader, WorldMachine, WorldStore}
+use Rattle.proof_deeds.specs.raft_calls.Deliveries.{answered, with_machine}
+use Rattle.proof_deeds.specs.raft_calls.Feeds.{WorldLed}
+use Rattle.proof_deeds.specs.raft_node.Net.{NodeView}
+use Rattle.proof_deeds.specs.raft_node.Starts.{engine_on}
 use Rattle.proof_progress.specs.Choices.{engine_at_start}
 use Rattle.proof_progress.proofs.Elects.{if_false, if_true}
 use Rattle.proof_progress.proofs.KeptVotes.{KeepsCore, Stays, WorldState, local_keeps}

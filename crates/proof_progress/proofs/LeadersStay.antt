@@ -5,70 +5,70 @@ use Rattle.std.specs.List.{AllByRecursion}
 use Rattle.std.specs.Option.{option_map}
 use Rattle.std.specs.Ordering.{is_gt, nat_cmp}
 use Rattle.std.proofs.lemmas.Cmp.{nat_cmp_total}
-use Rattle.raft_state.specs.declared.ids.LogId.{LogId}
-use Rattle.raft_state.specs.declared.membership.SnapshotMeta.{SnapshotMeta}
-use Rattle.raft_state.specs.declared.membership.StoredMembership.{StoredMembership}
-use Rattle.raft_state.specs.declared.state.RaftState.{RaftState}
-use Rattle.raft_state.specs.Members.{voter_ids}
-use Rattle.raft_state.specs.Order.{last_id_cmp}
-use Rattle.raft_state.specs.Same.{nat_same}
-use Rattle.raft_state.proofs.Orders.{is_equal}
-use Rattle.raft_error.specs.declared.error.EngineError.{EngineError}
-use Rattle.raft_command.specs.declared.config.EngineConfig.{EngineConfig}
-use Rattle.raft_command.specs.Queue.{popped}
-use Rattle.raft_progress_entry.specs.declared.entry.ProgressEntry.{ProgressEntry}
-use Rattle.raft_steps.specs.Invariants.{IsSound, LeaderFits}
-use Rattle.raft_steps.specs.LogHandler.{is_target_inflight, purge_log, schedule_policy_based_purge, try_purge_log}
-use Rattle.raft_steps.specs.Refusals.{refusals_of_spent, rows_in}
-use Rattle.raft_steps.specs.SnapshotCalls.{built, finish_building_snapshot}
-use Rattle.raft_steps.specs.SnapshotHandler.{is_newer_snapshot, update_snapshot}
-use Rattle.raft_steps.specs.Laws.{QueuesOnly}
-use Rattle.raft_steps.proofs.Kept.{either, either_option}
-use Rattle.raft_steps.proofs.LawsReply.{purge_leaves}
-use Rattle.raft_store.specs.declared.entry.Entry.{Entry}
-use Rattle.raft_store.specs.Built.{keep_snapshot, last_membership, meta_of}
-use Rattle.raft_store.specs.Entries.{entry_meaning}
-use Rattle.raft_store.specs.Mirror.{Mirrors}
-use Rattle.raft_store.specs.Restart.{forgotten, is_outrun, restarted, settled, settled_by}
-use Rattle.raft_store.specs.Store.{whole}
-use Rattle.raft_store.specs.Types.{EngineView, WorldCommand, WorldLeader, WorldMachine, WorldStore}
-use Rattle.raft_schedule.specs.declared.event.Event.{Event}
-use Rattle.raft_schedule.specs.declared.event.EventKind.{EventKind}
-use Rattle.raft_schedule.specs.declared.event.EventKind.TheVariants as kinds
-use Rattle.raft_schedule.specs.declared.event.SkipReason.{SkipReason}
-use Rattle.raft_schedule.specs.declared.event.SkipReason.TheVariants.{NotLeader}
-use Rattle.raft_schedule.specs.declared.event.Start.{Start}
-use Rattle.raft_schedule.specs.declared.event.Start.TheVariants as starts
-use Rattle.raft_calls.specs.declared.elections.Candidates.TheVariants.{AllMembers, Voters}
-use Rattle.raft_calls.specs.declared.message.Body.{Body}
-use Rattle.raft_calls.specs.declared.message.Body.TheVariants as body
-use Rattle.raft_calls.specs.declared.message.Message.{Message}
-use Rattle.raft_calls.specs.Deliveries.{answered, deliver, with_machine}
-use Rattle.raft_calls.specs.Elections.{elected, initialized}
-use Rattle.raft_calls.specs.Engines.{with_queue}
-use Rattle.raft_calls.specs.Feeds.{feed}
-use Rattle.raft_calls.specs.LeaderCalls.{failed, heartbeats_sent, inflight_to, proposed, read_asked, request_of, stepped_down}
-use Rattle.raft_calls.specs.Memberships.{groups_in, learners_changed, membership_changed}
-use Rattle.raft_calls.specs.Snapshots.{purge_triggered, snapshot_triggered, told_built}
-use Rattle.raft_calls.specs.Starts.{begun_anew, resumed}
-use Rattle.raft_calls.proofs.Falls.{WorldCore}
-use Rattle.raft_node.specs.declared.act.Act.{Act}
-use Rattle.raft_node.specs.declared.act.Act.TheVariants.{ChangeLearners, ChangeMembership, Elect, Fail, FinishSnapshot, Initialize, Propose, Read, Restart, SendHeartbeat, StepDown, Stop, Take, TriggerPurge, TriggerSnapshot}
-use Rattle.raft_node.specs.declared.act.Aim.{Aim}
-use Rattle.raft_node.specs.declared.given.Given.{Given}
-use Rattle.raft_node.specs.declared.node.Turn.{Turn}
-use Rattle.raft_node.specs.Events.{aim_of, calls_at, message_at, on_engine, skip_reason, turn_of}
-use Rattle.raft_node.specs.Execute.{exec}
-use Rattle.raft_node.specs.Net.{NodeView}
-use Rattle.raft_node.specs.Runs.{whole_logs, world_after}
-use Rattle.raft_node.specs.Snapshots.{finish_snapshot, kept_built}
-use Rattle.raft_node.specs.Starts.{engine_on, restart}
-use Rattle.raft_node.specs.WellFormed.{IsWellFormed}
-use Rattle.raft_node.specs.Work.{Work, done_of, one_less, step_of, stopped, stops, work_step}
-use Rattle.raft_node.proofs.Ready.{node_after, runs_unskipped, skip_moved}
-use Rattle.proof_agreement.specs.Stores as stores
-use Rattle.proof_mirror.specs.Ready.{Awaits, Ordered, Shaped}
-use Rattle.proof_mirror.proofs.Restarting.{restart_in_step}
+use Rattle.proof_deeds.specs.raft_state.declared.ids.LogId.{LogId}
+use Rattle.proof_deeds.specs.raft_state.declared.membership.SnapshotMeta.{SnapshotMeta}
+use Rattle.proof_deeds.specs.raft_state.declared.membership.StoredMembership.{StoredMembership}
+use Rattle.proof_deeds.specs.raft_state.declared.state.RaftState.{RaftState}
+use Rattle.proof_deeds.specs.raft_state.Members.{voter_ids}
+use Rattle.proof_deeds.specs.raft_state.Order.{last_id_cmp}
+use Rattle.proof_deeds.specs.raft_state.Same.{nat_same}
+use Rattle.proof_deeds.proofs.raft_state_proofs.Orders.{is_equal}
+use Rattle.proof_deeds.specs.raft_error.declared.error.EngineError.{EngineError}
+use Rattle.proof_deeds.specs.raft_command.declared.config.EngineConfig.{EngineConfig}
+use Rattle.proof_deeds.specs.raft_command.Queue.{popped}
+use Rattle.proof_deeds.specs.raft_progress_entry.declared.entry.ProgressEntry.{ProgressEntry}
+use Rattle.proof_deeds.specs.raft_steps.Invariants.{IsSound, LeaderFits}
+use Rattle.proof_deeds.specs.raft_steps.LogHandler.{is_target_inflight, purge_log, schedule_policy_based_purge, try_purge_log}
+use Rattle.proof_deeds.specs.raft_steps.Refusals.{refusals_of_spent, rows_in}
+use Rattle.proof_deeds.specs.raft_steps.SnapshotCalls.{built, finish_building_snapshot}
+use Rattle.proof_deeds.specs.raft_steps.SnapshotHandler.{is_newer_snapshot, update_snapshot}
+use Rattle.proof_deeds.specs.raft_steps.Laws.{QueuesOnly}
+use Rattle.proof_deeds.proofs.raft_steps_proofs.Kept.{either, either_option}
+use Rattle.proof_deeds.proofs.raft_steps_proofs.LawsReply.{purge_leaves}
+use Rattle.proof_deeds.specs.raft_store.declared.entry.Entry.{Entry}
+use Rattle.proof_deeds.specs.raft_store.Built.{keep_snapshot, last_membership, meta_of}
+use Rattle.proof_deeds.specs.raft_store.Entries.{entry_meaning}
+use Rattle.proof_deeds.specs.raft_store.Mirror.{Mirrors}
+use Rattle.proof_deeds.specs.raft_store.Restart.{forgotten, is_outrun, restarted, settled, settled_by}
+use Rattle.proof_deeds.specs.raft_store.Store.{whole}
+use Rattle.proof_deeds.specs.raft_store.Types.{EngineView, WorldCommand, WorldLeader, WorldMachine, WorldStore}
+use Rattle.proof_deeds.specs.raft_schedule.declared.event.Event.{Event}
+use Rattle.proof_deeds.specs.raft_schedule.declared.event.EventKind.{EventKind}
+use Rattle.proof_deeds.specs.raft_schedule.declared.event.EventKind.TheVariants as kinds
+use Rattle.proof_deeds.specs.raft_schedule.declared.event.SkipReason.{SkipReason}
+use Rattle.proof_deeds.specs.raft_schedule.declared.event.SkipReason.TheVariants.{NotLeader}
+use Rattle.proof_deeds.specs.raft_schedule.declared.event.Start.{Start}
+use Rattle.proof_deeds.specs.raft_schedule.declared.event.Start.TheVariants as starts
+use Rattle.proof_deeds.specs.raft_calls.declared.elections.Candidates.TheVariants.{AllMembers, Voters}
+use Rattle.proof_deeds.specs.raft_calls.declared.message.Body.{Body}
+use Rattle.proof_deeds.specs.raft_calls.declared.message.Body.TheVariants as body
+use Rattle.proof_deeds.specs.raft_calls.declared.message.Message.{Message}
+use Rattle.proof_deeds.specs.raft_calls.Deliveries.{answered, deliver, with_machine}
+use Rattle.proof_deeds.specs.raft_calls.Elections.{elected, initialized}
+use Rattle.proof_deeds.specs.raft_calls.Engines.{with_queue}
+use Rattle.proof_deeds.specs.raft_calls.Feeds.{feed}
+use Rattle.proof_deeds.specs.raft_calls.LeaderCalls.{failed, heartbeats_sent, inflight_to, proposed, read_asked, request_of, stepped_down}
+use Rattle.proof_deeds.specs.raft_calls.Memberships.{groups_in, learners_changed, membership_changed}
+use Rattle.proof_deeds.specs.raft_calls.Snapshots.{purge_triggered, snapshot_triggered, told_built}
+use Rattle.proof_deeds.specs.raft_calls.Starts.{begun_anew, resumed}
+use Rattle.proof_deeds.proofs.raft_calls_proofs.Falls.{WorldCore}
+use Rattle.proof_deeds.specs.raft_node.declared.act.Act.{Act}
+use Rattle.proof_deeds.specs.raft_node.declared.act.Act.TheVariants.{ChangeLearners, ChangeMembership, Elect, Fail, FinishSnapshot, Initialize, Propose, Read, Restart, SendHeartbeat, StepDown, Stop, Take, TriggerPurge, TriggerSnapshot}
+use Rattle.proof_deeds.specs.raft_node.declared.act.Aim.{Aim}
+use Rattle.proof_deeds.specs.raft_node.declared.given.Given.{Given}
+use Rattle.proof_deeds.specs.raft_node.declared.node.Turn.{Turn}
+use Rattle.proof_deeds.specs.raft_node.Events.{aim_of, calls_at, message_at, on_engine, skip_reason, turn_of}
+use Rattle.proof_deeds.specs.raft_node.Execute.{exec}
+use Rattle.proof_deeds.specs.raft_node.Net.{NodeView}
+use Rattle.proof_deeds.specs.raft_node.Runs.{whole_logs, world_after}
+use Rattle.proof_deeds.specs.raft_node.Snapshots.{finish_snapshot, kept_built}
+use Rattle.proof_deeds.specs.raft_node.Starts.{engine_on, restart}
+use Rattle.proof_deeds.specs.raft_node.WellFormed.{IsWellFormed}
+use Rattle.proof_deeds.specs.raft_node.Work.{Work, done_of, one_less, step_of, stopped, stops, work_step}
+use Rattle.proof_deeds.proofs.raft_node_proofs.Ready.{node_after, runs_unskipped, skip_moved}
+use Rattle.proof_deeds.specs.proof_agreement.Stores as stores
+use Rattle.proof_deeds.specs.proof_mirror.Ready.{Awaits, Ordered, Shaped}
+use Rattle.proof_deeds.proofs.proof_mirror_proofs.Restarting.{restart_in_step}
 use Rattle.proof_deeds.specs.Chains.{left_by, stored}
 use Rattle.proof_deeds.specs.Follows.{BodyIs}
 use Rattle.proof_deeds.specs.Images.{Ideal, setup_of}

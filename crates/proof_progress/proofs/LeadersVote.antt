@@ -8,82 +8,82 @@ use Rattle.std.specs.Ordering.{is_eq, is_gt, is_lt, is_ne, nat_cmp}
 use Rattle.std.specs.Result.{is_ok}
 use Rattle.std.proofs.lemmas.Bool.{and_parts, cond_both}
 use Rattle.std.proofs.lemmas.Cmp.{nat_cmp_total}
-use Rattle.raft_state.specs.declared.ids.LeaderId.{LeaderId}
-use Rattle.raft_state.specs.declared.policy.RejectAppendEntries.TheVariants as reject
-use Rattle.raft_state.specs.declared.ids.LogId.{LogId}
-use Rattle.raft_state.specs.declared.ids.Vote.{Vote}
-use Rattle.raft_state.specs.declared.membership.Members.{Members}
-use Rattle.raft_state.specs.declared.membership.StoredMembership.{StoredMembership}
-use Rattle.raft_state.specs.Log.{last}
-use Rattle.raft_state.specs.Members.{contains, group_of, placed_nodes, voter_ids}
-use Rattle.raft_state.specs.Order.{next, vote_cmp}
-use Rattle.raft_state.specs.Same.{nat_same}
-use Rattle.raft_state.specs.Sorted.{has_id}
-use Rattle.raft_state.specs.State.{is_initialized, is_leader, is_leading}
-use Rattle.raft_state.proofs.Orders.{is_equal}
-use Rattle.raft_state.proofs.Voters.{voters_placed}
-use Rattle.raft_progress.specs.Quorum.{is_quorum}
-use Rattle.raft_progress.proofs.Memberships.{has_group}
-use Rattle.raft_error.specs.declared.error.EngineError.{EngineError}
-use Rattle.raft_command.specs.declared.command.Command.TheVariants as command
-use Rattle.raft_command.specs.declared.command.Condition.{Condition}
-use Rattle.raft_command.specs.declared.config.EngineConfig.{EngineConfig}
-use Rattle.raft_command.specs.declared.message.AppendEntriesResponse.{AppendEntriesResponse}
-use Rattle.raft_command.specs.declared.message.AppendEntriesResponse.TheVariants.{Conflict, HigherVote, PartialSuccess, Success}
-use Rattle.raft_command.specs.declared.message.VoteRequest.{VoteRequest}
-use Rattle.raft_command.specs.declared.message.VoteResponse.{VoteResponse}
-use Rattle.raft_command.specs.declared.replication.ReplicationResult.{ReplicationResult}
-use Rattle.raft_command.specs.declared.replication.RequestId.{RequestId}
-use Rattle.raft_command.specs.declared.sm.CommandPayload.TheVariants.{BuildSnapshot}
-use Rattle.raft_proposer.specs.Candidate.{candidate_of, grant_by, is_granted}
-use Rattle.raft_steps.specs.Engine.{as_uncommitted, default_log_id, elect, handle_vote_resp, initialize, is_granted_to, lead_by_votes, may_establish, take_grant, take_rejection}
-use Rattle.raft_steps.specs.FollowingHandler.{commit_entries, commit_target, consecutive_answer, do_append_entries, holds_previous, memberships_in}
-use Rattle.raft_steps.specs.InstallRefusals.{refusals_of_install}
-use Rattle.raft_steps.specs.Installs.{handle_install_full_snapshot, install_and_reply, install_full_snapshot, reply_install}
-use Rattle.raft_steps.specs.Laws.{Queues, QueuesOnly}
-use Rattle.raft_steps.specs.LeaderHandler.{leader_append_entries, proposed}
-use Rattle.raft_proposer.specs.Leader.{numbered}
-use Rattle.raft_steps.specs.Parts.{leading, led_of, on_core, then_command, with_state}
-use Rattle.raft_steps.specs.Refusals.{refusals_of_counter_led, refusals_of_elect, refusals_of_initialize, refusals_of_local_progress, refusals_of_propose, refusals_of_spent, refusals_of_trigger_snapshot, refusals_of_update_vote, refusals_of_vote_resp}
-use Rattle.raft_steps.specs.Replies.{update_progress}
-use Rattle.raft_steps.specs.ReplyRefusals.{refusals_of_progress}
-use Rattle.raft_steps.specs.ReplicationHandler.{append_membership_led, initiate_replication, rebuild_progresses, rebuild_replication_streams, update_local_progress}
-use Rattle.raft_steps.specs.RequestRefusals.{refusals_of_append, refusals_of_commit, refusals_of_vote_req}
-use Rattle.raft_steps.specs.Requests.{append_answer, append_entries, follow, handle_append_entries, handle_commit_entries, handle_vote_req, refuses_vote_req}
-use Rattle.raft_steps.specs.ServerStateHandler.{update_role}
-use Rattle.raft_steps.specs.SnapshotCalls.{trigger_purge_log}
-use Rattle.raft_steps.specs.SnapshotHandler.{trigger_snapshot}
-use Rattle.raft_steps.specs.Starts.{leader_step_down, refusals_of_startup, refusals_of_step_down, started_role, startup}
-use Rattle.raft_steps.specs.VoteHandler.{rejects_vote, take_vote, update_internal_server_state, update_vote}
-use Rattle.raft_steps.proofs.Allowed.{both_behind, initiate_only, local_only, only_here, only_of}
-use Rattle.raft_steps.proofs.Kept.{either, either_option}
-use Rattle.raft_steps.proofs.Leads.{vote_same}
-use Rattle.raft_steps.proofs.LawsFollow.{append_queues, consecutive_queues, handle_commit_queues}
-use Rattle.raft_steps.proofs.LawsInstall.{install_leaves_vote, install_queues}
-use Rattle.raft_steps.proofs.LawsQueue.{do_append_queues, role_queues, silent}
-use Rattle.raft_steps.proofs.Marks.{do_append_marks, follow_marks}
-use Rattle.raft_steps.proofs.Unrefused.{neither, or_fails, second_fails}
-use Rattle.raft_store.specs.declared.entry.Entry.{Entry}
-use Rattle.raft_store.specs.declared.entry.Value.{Value}
-use Rattle.raft_store.specs.Built.{last_membership}
-use Rattle.raft_store.specs.Entries.{entry_meaning}
-use Rattle.raft_store.specs.Mirror.{Mirrors}
-use Rattle.raft_store.specs.Store.{whole}
-use Rattle.raft_store.specs.Types.{EngineView, WorldCandidate, WorldCommand, WorldLeader, WorldMachine, WorldSnapshot, WorldStore}
-use Rattle.raft_calls.specs.declared.message.Body.{Body}
-use Rattle.raft_calls.specs.declared.message.Body.TheVariants as body
-use Rattle.raft_calls.specs.declared.message.Origin.{Origin}
-use Rattle.raft_calls.specs.Deliveries.{answered, appended, deliver, led_call, progressed, reply_token, take_append, take_append_reply, take_commit, take_higher_vote, unled_number, vote_replied, vote_requested, with_machine}
-use Rattle.raft_calls.specs.Elections.{elected, first_entry, initialized}
-use Rattle.raft_calls.specs.Engines.{WorldRespond}
-use Rattle.raft_calls.specs.Feeds.{WorldLed, asks_itself, called, feed, hold_own, last_sent, own_grant}
-use Rattle.raft_calls.specs.LeaderCalls.{stepped_down, value_entry}
-use Rattle.raft_calls.specs.Snapshots.{purge_triggered, snapshot_triggered}
-use Rattle.raft_calls.specs.Starts.{begun_anew, resumed}
-use Rattle.raft_calls.proofs.StartReady.{begun_one}
-use Rattle.raft_calls.specs.Memberships.{members_with, membership_changed, membership_entry}
-use Rattle.raft_calls.proofs.Falls.{WorldCore}
-use Rattle.proof_mirror.specs.Ready.{Awaits}
+use Rattle.proof_deeds.specs.raft_state.declared.ids.LeaderId.{LeaderId}
+use Rattle.proof_deeds.specs.raft_state.declared.policy.RejectAppendEntries.TheVariants as reject
+use Rattle.proof_deeds.specs.raft_state.declared.ids.LogId.{LogId}
+use Rattle.proof_deeds.specs.raft_state.declared.ids.Vote.{Vote}
+use Rattle.proof_deeds.specs.raft_state.declared.membership.Members.{Members}
+use Rattle.proof_deeds.specs.raft_state.declared.membership.StoredMembership.{StoredMembership}
+use Rattle.proof_deeds.specs.raft_state.Log.{last}
+use Rattle.proof_deeds.specs.raft_state.Members.{contains, group_of, placed_nodes, voter_ids}
+use Rattle.proof_deeds.specs.raft_state.Order.{next, vote_cmp}
+use Rattle.proof_deeds.specs.raft_state.Same.{nat_same}
+use Rattle.proof_deeds.specs.raft_state.Sorted.{has_id}
+use Rattle.proof_deeds.specs.raft_state.State.{is_initialized, is_leader, is_leading}
+use Rattle.proof_deeds.proofs.raft_state_proofs.Orders.{is_equal}
+use Rattle.proof_deeds.proofs.raft_state_proofs.Voters.{voters_placed}
+use Rattle.proof_deeds.specs.raft_progress.Quorum.{is_quorum}
+use Rattle.proof_deeds.proofs.raft_progress_proofs.Memberships.{has_group}
+use Rattle.proof_deeds.specs.raft_error.declared.error.EngineError.{EngineError}
+use Rattle.proof_deeds.specs.raft_command.declared.command.Command.TheVariants as command
+use Rattle.proof_deeds.specs.raft_command.declared.command.Condition.{Condition}
+use Rattle.proof_deeds.specs.raft_command.declared.config.EngineConfig.{EngineConfig}
+use Rattle.proof_deeds.specs.raft_command.declared.message.AppendEntriesResponse.{AppendEntriesResponse}
+use Rattle.proof_deeds.specs.raft_command.declared.message.AppendEntriesResponse.TheVariants.{Conflict, HigherVote, PartialSuccess, Success}
+use Rattle.proof_deeds.specs.raft_command.declared.message.VoteRequest.{VoteRequest}
+use Rattle.proof_deeds.specs.raft_command.declared.message.VoteResponse.{VoteResponse}
+use Rattle.proof_deeds.specs.raft_command.declared.replication.ReplicationResult.{ReplicationResult}
+use Rattle.proof_deeds.specs.raft_command.declared.replication.RequestId.{RequestId}
+use Rattle.proof_deeds.specs.raft_command.declared.sm.CommandPayload.TheVariants.{BuildSnapshot}
+use Rattle.proof_deeds.specs.raft_proposer.Candidate.{candidate_of, grant_by, is_granted}
+use Rattle.proof_deeds.specs.raft_steps.Engine.{as_uncommitted, default_log_id, elect, handle_vote_resp, initialize, is_granted_to, lead_by_votes, may_establish, take_grant, take_rejection}
+use Rattle.proof_deeds.specs.raft_steps.FollowingHandler.{commit_entries, commit_target, consecutive_answer, do_append_entries, holds_previous, memberships_in}
+use Rattle.proof_deeds.specs.raft_steps.InstallRefusals.{refusals_of_install}
+use Rattle.proof_deeds.specs.raft_steps.Installs.{handle_install_full_snapshot, install_and_reply, install_full_snapshot, reply_install}
+use Rattle.proof_deeds.specs.raft_steps.Laws.{Queues, QueuesOnly}
+use Rattle.proof_deeds.specs.raft_steps.LeaderHandler.{leader_append_entries, proposed}
+use Rattle.proof_deeds.specs.raft_proposer.Leader.{numbered}
+use Rattle.proof_deeds.specs.raft_steps.Parts.{leading, led_of, on_core, then_command, with_state}
+use Rattle.proof_deeds.specs.raft_steps.Refusals.{refusals_of_counter_led, refusals_of_elect, refusals_of_initialize, refusals_of_local_progress, refusals_of_propose, refusals_of_spent, refusals_of_trigger_snapshot, refusals_of_update_vote, refusals_of_vote_resp}
+use Rattle.proof_deeds.specs.raft_steps.Replies.{update_progress}
+use Rattle.proof_deeds.specs.raft_steps.ReplyRefusals.{refusals_of_progress}
+use Rattle.proof_deeds.specs.raft_steps.ReplicationHandler.{append_membership_led, initiate_replication, rebuild_progresses, rebuild_replication_streams, update_local_progress}
+use Rattle.proof_deeds.specs.raft_steps.RequestRefusals.{refusals_of_append, refusals_of_commit, refusals_of_vote_req}
+use Rattle.proof_deeds.specs.raft_steps.Requests.{append_answer, append_entries, follow, handle_append_entries, handle_commit_entries, handle_vote_req, refuses_vote_req}
+use Rattle.proof_deeds.specs.raft_steps.ServerStateHandler.{update_role}
+use Rattle.proof_deeds.specs.raft_steps.SnapshotCalls.{trigger_purge_log}
+use Rattle.proof_deeds.specs.raft_steps.SnapshotHandler.{trigger_snapshot}
+use Rattle.proof_deeds.specs.raft_steps.Starts.{leader_step_down, refusals_of_startup, refusals_of_step_down, started_role, startup}
+use Rattle.proof_deeds.specs.raft_steps.VoteHandler.{rejects_vote, take_vote, update_internal_server_state, update_vote}
+use Rattle.proof_deeds.proofs.raft_steps_proofs.Allowed.{both_behind, initiate_only, local_only, only_here, only_of}
+use Rattle.proof_deeds.proofs.raft_steps_proofs.Kept.{either, either_option}
+use Rattle.proof_deeds.proofs.raft_steps_proofs.Leads.{vote_same}
+use Rattle.proof_deeds.proofs.raft_steps_proofs.LawsFollow.{append_queues, consecutive_queues, handle_commit_queues}
+use Rattle.proof_deeds.proofs.raft_steps_proofs.LawsInstall.{install_leaves_vote, install_queues}
+use Rattle.proof_deeds.proofs.raft_steps_proofs.LawsQueue.{do_append_queues, role_queues, silent}
+use Rattle.proof_deeds.proofs.raft_steps_proofs.Marks.{do_append_marks, follow_marks}
+use Rattle.proof_deeds.proofs.raft_steps_proofs.Unrefused.{neither, or_fails, second_fails}
+use Rattle.proof_deeds.specs.raft_store.declared.entry.Entry.{Entry}
+use Rattle.proof_deeds.specs.raft_store.declared.entry.Value.{Value}
+use Rattle.proof_deeds.specs.raft_store.Built.{last_membership}
+use Rattle.proof_deeds.specs.raft_store.Entries.{entry_meaning}
+use Rattle.proof_deeds.specs.raft_store.Mirror.{Mirrors}
+use Rattle.proof_deeds.specs.raft_store.Store.{whole}
+use Rattle.proof_deeds.specs.raft_store.Types.{EngineView, WorldCandidate, WorldCommand, WorldLeader, WorldMachine, WorldSnapshot, WorldStore}
+use Rattle.proof_deeds.specs.raft_calls.declared.message.Body.{Body}
+use Rattle.proof_deeds.specs.raft_calls.declared.message.Body.TheVariants as body
+use Rattle.proof_deeds.specs.raft_calls.declared.message.Origin.{Origin}
+use Rattle.proof_deeds.specs.raft_calls.Deliveries.{answered, appended, deliver, led_call, progressed, reply_token, take_append, take_append_reply, take_commit, take_higher_vote, unled_number, vote_replied, vote_requested, with_machine}
+use Rattle.proof_deeds.specs.raft_calls.Elections.{elected, first_entry, initialized}
+use Rattle.proof_deeds.specs.raft_calls.Engines.{WorldRespond}
+use Rattle.proof_deeds.specs.raft_calls.Feeds.{WorldLed, asks_itself, called, feed, hold_own, last_sent, own_grant}
+use Rattle.proof_deeds.specs.raft_calls.LeaderCalls.{stepped_down, value_entry}
+use Rattle.proof_deeds.specs.raft_calls.Snapshots.{purge_triggered, snapshot_triggered}
+use Rattle.proof_deeds.specs.raft_calls.Starts.{begun_anew, resumed}
+use Rattle.proof_deeds.proofs.raft_calls_proofs.StartReady.{begun_one}
+use Rattle.proof_deeds.specs.raft_calls.Memberships.{members_with, membership_changed, membership_entry}
+use Rattle.proof_deeds.proofs.raft_calls_proofs.Falls.{WorldCore}
+use Rattle.proof_deeds.specs.proof_mirror.Ready.{Awaits}
 use Rattle.proof_deeds.specs.Chains.{left_by, stored}
 use Rattle.proof_deeds.proofs.Numbers.{later_vote}
 use Rattle.proof_deeds.proofs.Pushes.{left_more}

@@ -3,31 +3,31 @@ use Rattle.std.proofs.Common.{ℕ, zero, suc, ◌≡◌, Bool, true, false, List
 use Rattle.std.specs.Prelude.{if◌then◌else◌, nat_eq, slice_get}
 use Rattle.std.proofs.lemmas.Bool.Decides.{nat_tests}
 use Rattle.std.specs.Ordering.{is_eq, is_ge, nat_cmp}
-use Rattle.raft_state.specs.declared.ids.LogId.{LogId}
-use Rattle.raft_state.specs.declared.ids.Vote.{Vote}
-use Rattle.raft_state.specs.Order.{last_id_cmp, vote_cmp}
-use Rattle.raft_progress.specs.Table.{get}
-use Rattle.raft_progress_entry.specs.declared.entry.ProgressEntry.{ProgressEntry}
-use Rattle.raft_error.specs.declared.error.EngineError.{EngineError}
-use Rattle.raft_command.specs.declared.command.Command.TheVariants as command
-use Rattle.raft_command.specs.declared.config.EngineConfig.{EngineConfig}
-use Rattle.raft_command.specs.declared.sm.CommandPayload.TheVariants as payload
-use Rattle.raft_command.specs.declared.replication.ReplicationSessionId.{ReplicationSessionId}
-use Rattle.raft_command.specs.Queue.{Queue, popped}
-use Rattle.raft_steps.specs.Parts.{led_of, leading}
-use Rattle.raft_steps.specs.Refusals.{refusals_of_local_progress}
-use Rattle.raft_steps.specs.ReplicationHandler.{commit_granted, own_matched, update_local_progress, with_entry}
-use Rattle.raft_store.specs.declared.entry.Entry.{Entry}
-use Rattle.raft_store.specs.Store.{whole}
-use Rattle.raft_store.specs.Types.{EngineView, WorldCandidate, WorldCommand, WorldLeader, WorldPayload}
-use Rattle.raft_node.specs.declared.node.Turn.{Turn}
-use Rattle.raft_node.specs.declared.record.Established.{Established}
-use Rattle.raft_node.specs.Execute.{exec, exec_payload}
-use Rattle.raft_calls.specs.Feeds.{last_sent, WorldLed, called, feed, hold_own}
-use Rattle.raft_node.specs.Runs.{whole_logs}
-use Rattle.raft_node.specs.Work.{Work, step_of, weight, work_step, worked}
-use Rattle.raft_calls.specs.Engines.{with_queue}
-use Rattle.raft_node.proofs.Worked.{worked-keeps, worked-step}
+use Rattle.proof_deeds.specs.raft_state.declared.ids.LogId.{LogId}
+use Rattle.proof_deeds.specs.raft_state.declared.ids.Vote.{Vote}
+use Rattle.proof_deeds.specs.raft_state.Order.{last_id_cmp, vote_cmp}
+use Rattle.proof_deeds.specs.raft_progress.Table.{get}
+use Rattle.proof_deeds.specs.raft_progress_entry.declared.entry.ProgressEntry.{ProgressEntry}
+use Rattle.proof_deeds.specs.raft_error.declared.error.EngineError.{EngineError}
+use Rattle.proof_deeds.specs.raft_command.declared.command.Command.TheVariants as command
+use Rattle.proof_deeds.specs.raft_command.declared.config.EngineConfig.{EngineConfig}
+use Rattle.proof_deeds.specs.raft_command.declared.sm.CommandPayload.TheVariants as payload
+use Rattle.proof_deeds.specs.raft_command.declared.replication.ReplicationSessionId.{ReplicationSessionId}
+use Rattle.proof_deeds.specs.raft_command.Queue.{Queue, popped}
+use Rattle.proof_deeds.specs.raft_steps.Parts.{led_of, leading}
+use Rattle.proof_deeds.specs.raft_steps.Refusals.{refusals_of_local_progress}
+use Rattle.proof_deeds.specs.raft_steps.ReplicationHandler.{commit_granted, own_matched, update_local_progress, with_entry}
+use Rattle.proof_deeds.specs.raft_store.declared.entry.Entry.{Entry}
+use Rattle.proof_deeds.specs.raft_store.Store.{whole}
+use Rattle.proof_deeds.specs.raft_store.Types.{EngineView, WorldCandidate, WorldCommand, WorldLeader, WorldPayload}
+use Rattle.proof_deeds.specs.raft_node.declared.node.Turn.{Turn}
+use Rattle.proof_deeds.specs.raft_node.declared.record.Established.{Established}
+use Rattle.proof_deeds.specs.raft_node.Execute.{exec, exec_payload}
+use Rattle.proof_deeds.specs.raft_calls.Feeds.{last_sent, WorldLed, called, feed, hold_own}
+use Rattle.proof_deeds.specs.raft_node.Runs.{whole_logs}
+use Rattle.proof_deeds.specs.raft_node.Work.{Work, step_of, weight, work_step, worked}
+use Rattle.proof_deeds.specs.raft_calls.Engines.{with_queue}
+use Rattle.proof_deeds.proofs.raft_node_proofs.Worked.{worked-keeps, worked-step}
 use Rattle.proof_progress.proofs.Wins.{Won}
 use Rattle.proof_progress.proofs.Works.{Effected, at_work}
 
@@ -120,12 +120,12 @@ module _ (t : Turn) (e : EngineView) (x : Established (List Entry)) (E : Effecte
   exec_records (command.RebuildReplicationStreams targets) = h
   exec_records (command.Replicate target req) = go E.streams.session_id
     where
-      go : (o : Option (ReplicationSessionId ℕ)) → Recorded x (elim o [ None ↦ E | Some s ↦ Rattle.raft_node.specs.Execute.sending (Rattle.raft_node.specs.Execute.to_each t.id (target ∷ []) (Rattle.raft_node.specs.Execute.replication t s E.store req)) E ])
+      go : (o : Option (ReplicationSessionId ℕ)) → Recorded x (elim o [ None ↦ E | Some s ↦ Rattle.proof_deeds.specs.raft_node.Execute.sending (Rattle.proof_deeds.specs.raft_node.Execute.to_each t.id (target ∷ []) (Rattle.proof_deeds.specs.raft_node.Execute.replication t s E.store req)) E ])
       go None = h
       go (Some s) = h
   exec_records (command.ReplicateCommitted committed) = go E.streams.session_id
     where
-      go : (o : Option (ReplicationSessionId ℕ)) → Recorded x (elim o [ None ↦ E | Some s ↦ Rattle.raft_node.specs.Execute.replicate_committed whole_logs t committed s E ])
+      go : (o : Option (ReplicationSessionId ℕ)) → Recorded x (elim o [ None ↦ E | Some s ↦ Rattle.proof_deeds.specs.raft_node.Execute.replicate_committed whole_logs t committed s E ])
       go None = h
       go (Some s) = h
   exec_records (command.Respond when reply) = h

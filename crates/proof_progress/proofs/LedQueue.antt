@@ -5,39 +5,39 @@ use Rattle.std.proofs.lemmas.List.{append-nil}
 use Rattle.std.specs.List.{AllByRecursion}
 use Rattle.std.specs.declared.cmp.Ordering.{Ordering}
 use Rattle.std.specs.Ordering.{is_eq, is_gt, is_le}
-use Rattle.raft_state.specs.declared.ids.LogId.{LogId}
-use Rattle.raft_state.specs.declared.state.RaftState.{RaftState}
-use Rattle.raft_state.specs.Log.{from, last}
-use Rattle.raft_state.specs.Order.{last_id_cmp, leader_id_cmp, next}
-use Rattle.raft_state.specs.Policy.{should_snapshot}
-use Rattle.raft_state.specs.State.{commit, commits, purge, settle}
-use Rattle.raft_state.proofs.LogLists.{each_append}
-use Rattle.raft_progress_entry.specs.declared.entry.Inflight.{Inflight}
-use Rattle.raft_progress_entry.specs.declared.entry.Inflight.TheVariants as inflight
-use Rattle.raft_progress_entry.specs.declared.entry.ProgressEntry.{ProgressEntry}
-use Rattle.raft_progress_entry.specs.Entry.{conflicted, matched, next_send, sent, silenced}
-use Rattle.raft_progress.specs.Quorum.{is_quorum}
-use Rattle.raft_progress.specs.Table.{get}
-use Rattle.raft_command.specs.declared.command.Command.{Command}
-use Rattle.raft_command.specs.declared.command.Command.TheVariants as command
-use Rattle.raft_command.specs.declared.config.EngineConfig.{EngineConfig}
-use Rattle.raft_command.specs.declared.replication.ReplicationResult.{ReplicationResult}
-use Rattle.raft_command.specs.declared.replication.RequestId.{RequestId}
-use Rattle.raft_command.specs.declared.sm.CommandPayload.TheVariants.{BuildSnapshot}
-use Rattle.raft_command.specs.Push.{committed_upto, with_command}
-use Rattle.raft_command.specs.Queue.{queued}
-use Rattle.raft_command.specs.Replication.{number_of}
-use Rattle.raft_proposer.specs.Leader.{granted_id}
-use Rattle.raft_steps.specs.Commit.{commit_by}
-use Rattle.raft_steps.specs.LogHandler.{is_target_inflight, purge_log, try_purge_log}
-use Rattle.raft_steps.specs.Parts.{Core, Led, under}
-use Rattle.raft_steps.specs.Replies.{on_entry, purge_unless_inflight, send_next, take_reply, update_conflicting, update_failed_progress, update_leader_clock, update_matching, update_success_progress}
-use Rattle.raft_steps.specs.ReplicationHandler.{send_commands, try_commit_quorum_accepted, with_entry}
-use Rattle.raft_steps.specs.SnapshotHandler.{snapshot_where_due, trigger_snapshot}
-use Rattle.raft_steps.proofs.Allowed.{both_behind}
-use Rattle.raft_steps.proofs.Kept.{either, either_option}
-use Rattle.raft_steps.proofs.LawsQueue.{append_append, append_none}
-use Rattle.raft_steps.proofs.LawsReply.{entry_core}
+use Rattle.proof_deeds.specs.raft_state.declared.ids.LogId.{LogId}
+use Rattle.proof_deeds.specs.raft_state.declared.state.RaftState.{RaftState}
+use Rattle.proof_deeds.specs.raft_state.Log.{from, last}
+use Rattle.proof_deeds.specs.raft_state.Order.{last_id_cmp, leader_id_cmp, next}
+use Rattle.proof_deeds.specs.raft_state.Policy.{should_snapshot}
+use Rattle.proof_deeds.specs.raft_state.State.{commit, commits, purge, settle}
+use Rattle.proof_deeds.proofs.raft_state_proofs.LogLists.{each_append}
+use Rattle.proof_deeds.specs.raft_progress_entry.declared.entry.Inflight.{Inflight}
+use Rattle.proof_deeds.specs.raft_progress_entry.declared.entry.Inflight.TheVariants as inflight
+use Rattle.proof_deeds.specs.raft_progress_entry.declared.entry.ProgressEntry.{ProgressEntry}
+use Rattle.proof_deeds.specs.raft_progress_entry.Entry.{conflicted, matched, next_send, sent, silenced}
+use Rattle.proof_deeds.specs.raft_progress.Quorum.{is_quorum}
+use Rattle.proof_deeds.specs.raft_progress.Table.{get}
+use Rattle.proof_deeds.specs.raft_command.declared.command.Command.{Command}
+use Rattle.proof_deeds.specs.raft_command.declared.command.Command.TheVariants as command
+use Rattle.proof_deeds.specs.raft_command.declared.config.EngineConfig.{EngineConfig}
+use Rattle.proof_deeds.specs.raft_command.declared.replication.ReplicationResult.{ReplicationResult}
+use Rattle.proof_deeds.specs.raft_command.declared.replication.RequestId.{RequestId}
+use Rattle.proof_deeds.specs.raft_command.declared.sm.CommandPayload.TheVariants.{BuildSnapshot}
+use Rattle.proof_deeds.specs.raft_command.Push.{committed_upto, with_command}
+use Rattle.proof_deeds.specs.raft_command.Queue.{queued}
+use Rattle.proof_deeds.specs.raft_command.Replication.{number_of}
+use Rattle.proof_deeds.specs.raft_proposer.Leader.{granted_id}
+use Rattle.proof_deeds.specs.raft_steps.Commit.{commit_by}
+use Rattle.proof_deeds.specs.raft_steps.LogHandler.{is_target_inflight, purge_log, try_purge_log}
+use Rattle.proof_deeds.specs.raft_steps.Parts.{Core, Led, under}
+use Rattle.proof_deeds.specs.raft_steps.Replies.{on_entry, purge_unless_inflight, send_next, take_reply, update_conflicting, update_failed_progress, update_leader_clock, update_matching, update_success_progress}
+use Rattle.proof_deeds.specs.raft_steps.ReplicationHandler.{send_commands, try_commit_quorum_accepted, with_entry}
+use Rattle.proof_deeds.specs.raft_steps.SnapshotHandler.{snapshot_where_due, trigger_snapshot}
+use Rattle.proof_deeds.proofs.raft_steps_proofs.Allowed.{both_behind}
+use Rattle.proof_deeds.proofs.raft_steps_proofs.Kept.{either, either_option}
+use Rattle.proof_deeds.proofs.raft_steps_proofs.LawsQueue.{append_append, append_none}
+use Rattle.proof_deeds.proofs.raft_steps_proofs.LawsReply.{entry_core}
 
 -- such a command
 abbrev pub IsLedCommand : {C NID N E D R S : Type 0} → Command C NID N E D R S → Type 0

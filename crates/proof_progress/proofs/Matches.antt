@@ -6,25 +6,25 @@ use Rattle.std.specs.Cmp.{IsTotalOrder}
 use Rattle.std.specs.declared.cmp.Ordering.{Ordering}
 use Rattle.std.specs.declared.cmp.Ordering.TheVariants.{Equal, Greater, Less}
 use Rattle.std.specs.Ordering.{is_eq, is_ge, is_gt, is_le, ordering_reverse}
-use Rattle.raft_state.specs.declared.ids.LogId.{LogId}
-use Rattle.raft_state.specs.declared.state.RaftState.{RaftState}
-use Rattle.raft_state.specs.Invariants.{IsSoundState}
-use Rattle.raft_state.specs.Log.{last}
-use Rattle.raft_state.specs.Order.{last_id_cmp, next}
-use Rattle.raft_state.specs.Same.{log_id_same}
-use Rattle.raft_state.proofs.Orders.{both_and, is_equal, last_total, le_antisymm, le_of_not_gt, le_refl, le_trans, lt_is_le, lt_of_gt, within_le}
-use Rattle.raft_progress_entry.specs.declared.entry.ProgressEntry.{ProgressEntry}
-use Rattle.raft_progress.specs.Quorum.{is_quorum}
-use Rattle.raft_progress.specs.QuorumLaws.{quorum_grows}
-use Rattle.raft_progress.specs.Table.{get, reached, voter_rows}
-use Rattle.raft_command.specs.declared.config.EngineConfig.{EngineConfig}
-use Rattle.raft_steps.specs.ReplyLaws.{takes_matching}
-use Rattle.raft_proposer.specs.Joint.{JointLeader}
-use Rattle.raft_proposer.proofs.Elements.{In, contains_in, each_in}
-use Rattle.raft_steps.specs.Invariants.{IsSoundLed}
-use Rattle.raft_steps.specs.Laws.{CommitsLatest, committable, is_of, later}
-use Rattle.raft_steps.specs.Parts.{Led}
-use Rattle.raft_steps.proofs.LawsReply.{progress_law}
+use Rattle.proof_deeds.specs.raft_state.declared.ids.LogId.{LogId}
+use Rattle.proof_deeds.specs.raft_state.declared.state.RaftState.{RaftState}
+use Rattle.proof_deeds.specs.raft_state.Invariants.{IsSoundState}
+use Rattle.proof_deeds.specs.raft_state.Log.{last}
+use Rattle.proof_deeds.specs.raft_state.Order.{last_id_cmp, next}
+use Rattle.proof_deeds.specs.raft_state.Same.{log_id_same}
+use Rattle.proof_deeds.proofs.raft_state_proofs.Orders.{both_and, is_equal, last_total, le_antisymm, le_of_not_gt, le_refl, le_trans, lt_is_le, lt_of_gt, within_le}
+use Rattle.proof_deeds.specs.raft_progress_entry.declared.entry.ProgressEntry.{ProgressEntry}
+use Rattle.proof_deeds.specs.raft_progress.Quorum.{is_quorum}
+use Rattle.proof_deeds.specs.raft_progress.QuorumLaws.{quorum_grows}
+use Rattle.proof_deeds.specs.raft_progress.Table.{get, reached, voter_rows}
+use Rattle.proof_deeds.specs.raft_command.declared.config.EngineConfig.{EngineConfig}
+use Rattle.proof_deeds.specs.raft_steps.ReplyLaws.{takes_matching}
+use Rattle.proof_deeds.specs.raft_proposer.Joint.{JointLeader}
+use Rattle.proof_deeds.proofs.raft_proposer_proofs.Elements.{In, contains_in, each_in}
+use Rattle.proof_deeds.specs.raft_steps.Invariants.{IsSoundLed}
+use Rattle.proof_deeds.specs.raft_steps.Laws.{CommitsLatest, committable, is_of, later}
+use Rattle.proof_deeds.specs.raft_steps.Parts.{Led}
+use Rattle.proof_deeds.proofs.raft_steps_proofs.LawsReply.{progress_law}
 use Rattle.proof_progress.specs.Replication.{Handles, IsAsked, IsMatched, IsMatchedVoter, Replicates, Rounds, answered, request_of}
 use Rattle.proof_progress.proofs.Nearing.{IsServed}
 use Rattle.proof_progress.proofs.Rounds.{After, entry_unrefused, handled_after, narrowed, numbered, still_low, then_known}

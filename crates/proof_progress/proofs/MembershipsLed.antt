@@ -3,24 +3,24 @@ use Rattle.std.proofs.Common.{ℕ, ◌<◌, ◌≡◌, ◌∙◌, ap, arith, inl
 use Rattle.std.specs.Prelude.{Contains, IfSome}
 use Rattle.std.specs.List.{AllByRecursion}
 use Rattle.std.specs.Ordering.{nat_cmp}
-use Rattle.raft_state.specs.declared.ids.Vote.{Vote}
-use Rattle.raft_state.specs.declared.membership.StoredMembership.{StoredMembership}
-use Rattle.raft_state.specs.Members.{voter_ids}
-use Rattle.raft_state.specs.Same.{nat_same}
-use Rattle.raft_state.proofs.Orders.{is_equal}
-use Rattle.raft_steps.specs.Invariants.{LeaderFits}
-use Rattle.raft_store.specs.declared.entry.Entry.{Entry}
-use Rattle.raft_store.specs.Store.{whole}
-use Rattle.raft_store.specs.Types.{EngineView, WorldLeader}
-use Rattle.raft_schedule.specs.declared.event.Event.{Event}
-use Rattle.raft_schedule.specs.declared.event.EventKind.{EventKind}
-use Rattle.raft_schedule.specs.declared.event.EventKind.TheVariants as kinds
-use Rattle.raft_calls.specs.Elections.{first_entry}
-use Rattle.raft_calls.specs.Memberships.{groups_in, members_with, membership_entry}
-use Rattle.raft_node.specs.declared.given.Given.{Given}
-use Rattle.raft_node.specs.Net.{NodeView}
-use Rattle.raft_node.specs.Runs.{world_after}
-use Rattle.raft_node.specs.WellFormed.{IsWellFormed}
+use Rattle.proof_deeds.specs.raft_state.declared.ids.Vote.{Vote}
+use Rattle.proof_deeds.specs.raft_state.declared.membership.StoredMembership.{StoredMembership}
+use Rattle.proof_deeds.specs.raft_state.Members.{voter_ids}
+use Rattle.proof_deeds.specs.raft_state.Same.{nat_same}
+use Rattle.proof_deeds.proofs.raft_state_proofs.Orders.{is_equal}
+use Rattle.proof_deeds.specs.raft_steps.Invariants.{LeaderFits}
+use Rattle.proof_deeds.specs.raft_store.declared.entry.Entry.{Entry}
+use Rattle.proof_deeds.specs.raft_store.Store.{whole}
+use Rattle.proof_deeds.specs.raft_store.Types.{EngineView, WorldLeader}
+use Rattle.proof_deeds.specs.raft_schedule.declared.event.Event.{Event}
+use Rattle.proof_deeds.specs.raft_schedule.declared.event.EventKind.{EventKind}
+use Rattle.proof_deeds.specs.raft_schedule.declared.event.EventKind.TheVariants as kinds
+use Rattle.proof_deeds.specs.raft_calls.Elections.{first_entry}
+use Rattle.proof_deeds.specs.raft_calls.Memberships.{groups_in, members_with, membership_entry}
+use Rattle.proof_deeds.specs.raft_node.declared.given.Given.{Given}
+use Rattle.proof_deeds.specs.raft_node.Net.{NodeView}
+use Rattle.proof_deeds.specs.raft_node.Runs.{world_after}
+use Rattle.proof_deeds.specs.raft_node.WellFormed.{IsWellFormed}
 use Rattle.proof_deeds.specs.Follows.{StoreIs}
 use Rattle.proof_deeds.specs.Images.{Ideal, number, setup_of}
 use Rattle.proof_deeds.specs.Knows.{KnowsLed}

@@ -2,10 +2,10 @@
 use Rattle.std.proofs.Common.{ℕ, suc, ◌+◌, ◌-◌, ◌≡◌, inl, inr, false, List, [], ◌∷◌, ◌++◌, length, arith, ap, ◌∙◌, Option, None, Some}
 use Rattle.std.specs.Prelude.{nat_eq, slice_get}
 use Rattle.std.proofs.lemmas.Bool.Decides.{nat_tests}
-use Rattle.raft_calls.specs.declared.message.Body.{Body}
-use Rattle.raft_calls.specs.declared.message.Message.{Message}
-use Rattle.raft_node.specs.Events.{message_at}
-use Rattle.raft_node.specs.Execute.{to_each}
+use Rattle.proof_deeds.specs.raft_calls.declared.message.Body.{Body}
+use Rattle.proof_deeds.specs.raft_calls.declared.message.Message.{Message}
+use Rattle.proof_deeds.specs.raft_node.Events.{message_at}
+use Rattle.proof_deeds.specs.raft_node.Execute.{to_each}
 use Rattle.proof_progress.specs.Elections.{Listed}
 use Rattle.proof_progress.proofs.Elects.{if_false}
 

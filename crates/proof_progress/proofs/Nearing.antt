@@ -6,27 +6,27 @@ use Rattle.std.specs.declared.cmp.Ordering.{Ordering}
 use Rattle.std.specs.declared.cmp.Ordering.TheVariants.{Equal}
 use Rattle.std.specs.Ordering.{is_le, is_lt}
 use Rattle.std.proofs.lemmas.Bool.Decides.{nat_tests}
-use Rattle.raft_state.specs.declared.ids.LogId.{LogId}
-use Rattle.raft_state.specs.declared.state.RaftState.{RaftState}
-use Rattle.raft_state.specs.Fits.{fits, is_below, is_within}
-use Rattle.raft_state.specs.Invariants.{IsSoundState, first_index}
-use Rattle.raft_state.specs.Log.{at, last}
-use Rattle.raft_state.specs.LogLaws.{at-run}
-use Rattle.raft_state.specs.Order.{last_id_cmp, next}
-use Rattle.raft_state.specs.Policy.{saturating_add}
-use Rattle.raft_state.specs.Same.{found_is}
-use Rattle.raft_state.specs.State.{is_found}
-use Rattle.raft_state.proofs.LogLists.{at_has, has_within, last_is, run_low}
-use Rattle.raft_state.proofs.Orders.{and_both, last_total, lt_is_le, lt_le, nat_lt_is, or_cases, within_le, within_next, within_trans}
-use Rattle.raft_state.proofs.StateLaws.{log_next}
-use Rattle.raft_progress_entry.specs.declared.entry.Inflight.{Inflight}
-use Rattle.raft_progress_entry.specs.declared.entry.Inflight.TheVariants as inflight
-use Rattle.raft_progress_entry.specs.declared.entry.LogIdRange.{LogIdRange}
-use Rattle.raft_progress_entry.specs.declared.entry.ProgressEntry.{ProgressEntry}
-use Rattle.raft_progress_entry.specs.Entry.{before, conflicted, inflight_id, is_idle, matched, next_send, send_end, send_start, sent}
-use Rattle.raft_steps.specs.Invariants.{EntryFits}
-use Rattle.raft_steps.proofs.EntryLaws.{run_at}
-use Rattle.raft_steps.proofs.Room.{log_end}
+use Rattle.proof_deeds.specs.raft_state.declared.ids.LogId.{LogId}
+use Rattle.proof_deeds.specs.raft_state.declared.state.RaftState.{RaftState}
+use Rattle.proof_deeds.specs.raft_state.Fits.{fits, is_below, is_within}
+use Rattle.proof_deeds.specs.raft_state.Invariants.{IsSoundState, first_index}
+use Rattle.proof_deeds.specs.raft_state.Log.{at, last}
+use Rattle.proof_deeds.specs.raft_state.LogLaws.{at-run}
+use Rattle.proof_deeds.specs.raft_state.Order.{last_id_cmp, next}
+use Rattle.proof_deeds.specs.raft_state.Policy.{saturating_add}
+use Rattle.proof_deeds.specs.raft_state.Same.{found_is}
+use Rattle.proof_deeds.specs.raft_state.State.{is_found}
+use Rattle.proof_deeds.proofs.raft_state_proofs.LogLists.{at_has, has_within, last_is, run_low}
+use Rattle.proof_deeds.proofs.raft_state_proofs.Orders.{and_both, last_total, lt_is_le, lt_le, nat_lt_is, or_cases, within_le, within_next, within_trans}
+use Rattle.proof_deeds.proofs.raft_state_proofs.StateLaws.{log_next}
+use Rattle.proof_deeds.specs.raft_progress_entry.declared.entry.Inflight.{Inflight}
+use Rattle.proof_deeds.specs.raft_progress_entry.declared.entry.Inflight.TheVariants as inflight
+use Rattle.proof_deeds.specs.raft_progress_entry.declared.entry.LogIdRange.{LogIdRange}
+use Rattle.proof_deeds.specs.raft_progress_entry.declared.entry.ProgressEntry.{ProgressEntry}
+use Rattle.proof_deeds.specs.raft_progress_entry.Entry.{before, conflicted, inflight_id, is_idle, matched, next_send, send_end, send_start, sent}
+use Rattle.proof_deeds.specs.raft_steps.Invariants.{EntryFits}
+use Rattle.proof_deeds.proofs.raft_steps_proofs.EntryLaws.{run_at}
+use Rattle.proof_deeds.proofs.raft_steps_proofs.Room.{log_end}
 
 -- the gap of a node's log: the indexes among which is searched, and the entries that aren't known to match
 abbrev pub gap : {NID : Type 0} → ℕ → ProgressEntry NID → ℕ

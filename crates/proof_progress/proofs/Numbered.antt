@@ -5,27 +5,27 @@ use Rattle.std.specs.Option.{option_and_then}
 use Rattle.std.specs.Ordering.{is_eq, nat_cmp}
 use Rattle.std.proofs.lemmas.Bool.Decides.{nat_tests}
 use Rattle.std.proofs.lemmas.Cmp.{nat_cmp_total, tied_itself}
-use Rattle.raft_state.specs.declared.ids.LogId.{LogId}
-use Rattle.raft_state.specs.declared.ids.Vote.{Vote}
-use Rattle.raft_state.specs.Order.{last_id_cmp, vote_cmp}
-use Rattle.raft_state.specs.Same.{log_id_same, nat_same}
-use Rattle.raft_state.proofs.Orders.{and_both, both_and, is_equal, last_total, vote_total}
-use Rattle.raft_progress_entry.specs.declared.entry.Inflight.{Inflight}
-use Rattle.raft_progress_entry.specs.declared.entry.Inflight.TheVariants as inflight
-use Rattle.raft_command.specs.declared.replication.ReplicationSessionId.{ReplicationSessionId}
-use Rattle.raft_command.specs.declared.replication.RequestId.{RequestId}
-use Rattle.raft_command.specs.declared.replication.RequestId.TheVariants as request
-use Rattle.raft_steps.proofs.Leads.{vote_same}
-use Rattle.raft_store.specs.declared.entry.Entry.{Entry}
-use Rattle.raft_store.specs.Types.{EngineView, WorldLeader}
-use Rattle.raft_calls.specs.declared.message.Body.{Body}
-use Rattle.raft_calls.specs.declared.message.Body.TheVariants as body
-use Rattle.raft_calls.specs.declared.message.Message.{Message}
-use Rattle.raft_calls.specs.declared.message.Origin.{Origin}
-use Rattle.raft_calls.specs.Deliveries.{same_session}
-use Rattle.raft_calls.specs.Feeds.{last_sent}
-use Rattle.raft_node.specs.Events.{message_at}
-use Rattle.raft_node.specs.Net.{Net, NodeView, node_at}
+use Rattle.proof_deeds.specs.raft_state.declared.ids.LogId.{LogId}
+use Rattle.proof_deeds.specs.raft_state.declared.ids.Vote.{Vote}
+use Rattle.proof_deeds.specs.raft_state.Order.{last_id_cmp, vote_cmp}
+use Rattle.proof_deeds.specs.raft_state.Same.{log_id_same, nat_same}
+use Rattle.proof_deeds.proofs.raft_state_proofs.Orders.{and_both, both_and, is_equal, last_total, vote_total}
+use Rattle.proof_deeds.specs.raft_progress_entry.declared.entry.Inflight.{Inflight}
+use Rattle.proof_deeds.specs.raft_progress_entry.declared.entry.Inflight.TheVariants as inflight
+use Rattle.proof_deeds.specs.raft_command.declared.replication.ReplicationSessionId.{ReplicationSessionId}
+use Rattle.proof_deeds.specs.raft_command.declared.replication.RequestId.{RequestId}
+use Rattle.proof_deeds.specs.raft_command.declared.replication.RequestId.TheVariants as request
+use Rattle.proof_deeds.proofs.raft_steps_proofs.Leads.{vote_same}
+use Rattle.proof_deeds.specs.raft_store.declared.entry.Entry.{Entry}
+use Rattle.proof_deeds.specs.raft_store.Types.{EngineView, WorldLeader}
+use Rattle.proof_deeds.specs.raft_calls.declared.message.Body.{Body}
+use Rattle.proof_deeds.specs.raft_calls.declared.message.Body.TheVariants as body
+use Rattle.proof_deeds.specs.raft_calls.declared.message.Message.{Message}
+use Rattle.proof_deeds.specs.raft_calls.declared.message.Origin.{Origin}
+use Rattle.proof_deeds.specs.raft_calls.Deliveries.{same_session}
+use Rattle.proof_deeds.specs.raft_calls.Feeds.{last_sent}
+use Rattle.proof_deeds.specs.raft_node.Events.{message_at}
+use Rattle.proof_deeds.specs.raft_node.Net.{Net, NodeView, node_at}
 use Rattle.proof_progress.specs.Continuations.{At}
 use Rattle.proof_progress.specs.Exchanges.{AreEntries, Carries, IsTold}
 use Rattle.proof_progress.specs.Plans.{asks_vote, carries, first_from, is_append, is_leading, number_of, running, sends, tells}

@@ -4,23 +4,23 @@ use Rattle.std.specs.Prelude.{◌||◌, if◌then◌else◌, nat_lt}
 use Rattle.std.specs.List.{AllByRecursion, list_any}
 use Rattle.std.specs.Ordering.{nat_cmp}
 use Rattle.std.proofs.lemmas.Bool.Decides.{nat_tests}
-use Rattle.raft_state.specs.declared.ids.LogId.{LogId}
-use Rattle.raft_progress_entry.specs.declared.entry.Inflight.{Inflight}
-use Rattle.raft_progress_entry.specs.declared.entry.ProgressEntry.{ProgressEntry}
-use Rattle.raft_progress_entry.specs.Entry.{conflicted, matched, next_send, sent, silenced}
-use Rattle.raft_progress.specs.Table.{get, is_row_of, row_of, with_value}
-use Rattle.raft_command.specs.declared.config.EngineConfig.{EngineConfig}
-use Rattle.raft_command.specs.declared.replication.ReplicationResult.{ReplicationResult}
-use Rattle.raft_command.specs.declared.replication.RequestId.{RequestId}
-use Rattle.raft_command.specs.Queue.{queued}
-use Rattle.raft_command.specs.Replication.{number_of}
-use Rattle.raft_proposer.specs.Joint.{u64_max}
-use Rattle.raft_steps.specs.Parts.{under}
-use Rattle.raft_steps.specs.Refusals.{is_counter_end, rows_in}
-use Rattle.raft_steps.specs.Replies.{on_entry, purge_unless_inflight, send_next, take_reply, update_conflicting, update_failed_progress, update_leader_clock, update_matching, update_progress, update_success_progress}
-use Rattle.raft_steps.specs.ReplicationHandler.{send_commands, with_entry}
-use Rattle.raft_store.specs.Types.{WorldLeader, WorldMachine}
-use Rattle.raft_calls.specs.Feeds.{WorldLed}
+use Rattle.proof_deeds.specs.raft_state.declared.ids.LogId.{LogId}
+use Rattle.proof_deeds.specs.raft_progress_entry.declared.entry.Inflight.{Inflight}
+use Rattle.proof_deeds.specs.raft_progress_entry.declared.entry.ProgressEntry.{ProgressEntry}
+use Rattle.proof_deeds.specs.raft_progress_entry.Entry.{conflicted, matched, next_send, sent, silenced}
+use Rattle.proof_deeds.specs.raft_progress.Table.{get, is_row_of, row_of, with_value}
+use Rattle.proof_deeds.specs.raft_command.declared.config.EngineConfig.{EngineConfig}
+use Rattle.proof_deeds.specs.raft_command.declared.replication.ReplicationResult.{ReplicationResult}
+use Rattle.proof_deeds.specs.raft_command.declared.replication.RequestId.{RequestId}
+use Rattle.proof_deeds.specs.raft_command.Queue.{queued}
+use Rattle.proof_deeds.specs.raft_command.Replication.{number_of}
+use Rattle.proof_deeds.specs.raft_proposer.Joint.{u64_max}
+use Rattle.proof_deeds.specs.raft_steps.Parts.{under}
+use Rattle.proof_deeds.specs.raft_steps.Refusals.{is_counter_end, rows_in}
+use Rattle.proof_deeds.specs.raft_steps.Replies.{on_entry, purge_unless_inflight, send_next, take_reply, update_conflicting, update_failed_progress, update_leader_clock, update_matching, update_progress, update_success_progress}
+use Rattle.proof_deeds.specs.raft_steps.ReplicationHandler.{send_commands, with_entry}
+use Rattle.proof_deeds.specs.raft_store.Types.{WorldLeader, WorldMachine}
+use Rattle.proof_deeds.specs.raft_calls.Feeds.{WorldLed}
 use Rattle.proof_progress.specs.Exchanges.{HasNumbers}
 use Rattle.proof_progress.proofs.HeldMatches.{row_known}
 

@@ -7,57 +7,57 @@ use Rattle.std.proofs.lemmas.List.Elements.{All-contains_itself, recursion_from_
 use Rattle.std.specs.List.{AllByRecursion}
 use Rattle.std.specs.Option.{option_to_list}
 use Rattle.std.specs.Ordering.{is_le, nat_cmp}
-use Rattle.raft_state.specs.declared.ids.LeaderId.{LeaderId}
-use Rattle.raft_state.specs.declared.ids.LogId.{LogId}
-use Rattle.raft_state.specs.declared.ids.Vote.{Vote}
-use Rattle.raft_state.specs.declared.membership.Members.{Members}
-use Rattle.raft_state.specs.Log.{last}
-use Rattle.raft_state.specs.Order.{leader_id_cmp}
-use Rattle.raft_state.specs.Same.{leader_id_same, nat_same}
-use Rattle.raft_state.proofs.LogLists.{each_append}
-use Rattle.raft_state.proofs.Orders.{le_cases}
-use Rattle.raft_progress_entry.specs.declared.entry.Inflight.{Inflight}
-use Rattle.raft_progress_entry.specs.declared.entry.Inflight.TheVariants as inflight
-use Rattle.raft_command.specs.declared.command.Command.TheVariants as command
-use Rattle.raft_command.specs.declared.replication.ReplicationSessionId.{ReplicationSessionId}
-use Rattle.raft_command.specs.declared.respond.Respond.TheVariants as respond
-use Rattle.raft_command.specs.declared.sm.CommandPayload.TheVariants as payload
-use Rattle.raft_command.specs.Queue.{popped}
-use Rattle.raft_steps.specs.Invariants.{LeaderFits}
-use Rattle.raft_store.specs.declared.entry.Entry.{Entry}
-use Rattle.raft_store.specs.Entries.{entry_meaning}
-use Rattle.raft_store.specs.Store as store
-use Rattle.raft_store.specs.Store.{past, whole}
-use Rattle.raft_store.specs.Types.{EngineView, WorldCommand, WorldLeader, WorldPayload, WorldStore}
-use Rattle.raft_schedule.specs.declared.event.Event.{Event}
-use Rattle.raft_schedule.specs.declared.event.Outcome.{Outcome}
-use Rattle.raft_schedule.specs.declared.event.Outcome.TheVariants.{Skipped}
-use Rattle.raft_schedule.specs.declared.event.SkipReason.{SkipReason}
-use Rattle.raft_calls.specs.declared.lead.Answer.{Answer}
-use Rattle.raft_calls.specs.declared.message.Body.{Body}
-use Rattle.raft_calls.specs.declared.message.Body.TheVariants as body
-use Rattle.raft_calls.specs.declared.message.Message.{Message}
-use Rattle.raft_calls.specs.Engines.{WorldRespond, with_queue}
-use Rattle.raft_calls.specs.Feeds.{feed, feed_of}
-use Rattle.raft_node.specs.declared.act.Act.{Act}
-use Rattle.raft_node.specs.declared.given.Given.{Given}
-use Rattle.raft_node.specs.declared.node.Turn.{Turn}
-use Rattle.raft_node.specs.Events.{Scene, answer_at, called_at, calls, calls_at, finish, moment_of, played, skip_reason, turn_of, with_answer, work_of}
-use Rattle.raft_node.specs.Execute.{Effects, exec, exec_payload, heartbeat, others, replicate_committed, replication, replies, reply_to, sending, to_each}
-use Rattle.raft_node.specs.Net.{NodeView}
-use Rattle.raft_node.specs.Runs.{whole_logs, world_after}
-use Rattle.raft_node.specs.WellFormed.{IsWellFormed}
-use Rattle.raft_node.specs.Work.{Work, one_less, step_of, stopped, stops, weight, work_step, worked}
-use Rattle.raft_node.proofs.Ready.{scene_after, skip_moved}
-use Rattle.raft_node.proofs.Worked.{worked-keeps}
-use Rattle.proof_agreement.specs.LeaderNumbers.{leader_node}
-use Rattle.proof_agreement.specs.Machine.{Setup, last_leader, start}
-use Rattle.proof_agreement.specs.Stores.{entry_at, last_leader_of}
-use Rattle.proof_agreement.specs.Stores as stores
-use Rattle.proof_agreement.proofs.Invariants.{IsPast}
-use Rattle.proof_agreement.proofs.LeaderNumbers.{leader_node-number}
-use Rattle.proof_agreement.proofs.StoresFollow.{StoresFollow}
-use Rattle.proof_mirror.specs.Ready.{FitsBefore, Ready}
+use Rattle.proof_deeds.specs.raft_state.declared.ids.LeaderId.{LeaderId}
+use Rattle.proof_deeds.specs.raft_state.declared.ids.LogId.{LogId}
+use Rattle.proof_deeds.specs.raft_state.declared.ids.Vote.{Vote}
+use Rattle.proof_deeds.specs.raft_state.declared.membership.Members.{Members}
+use Rattle.proof_deeds.specs.raft_state.Log.{last}
+use Rattle.proof_deeds.specs.raft_state.Order.{leader_id_cmp}
+use Rattle.proof_deeds.specs.raft_state.Same.{leader_id_same, nat_same}
+use Rattle.proof_deeds.proofs.raft_state_proofs.LogLists.{each_append}
+use Rattle.proof_deeds.proofs.raft_state_proofs.Orders.{le_cases}
+use Rattle.proof_deeds.specs.raft_progress_entry.declared.entry.Inflight.{Inflight}
+use Rattle.proof_deeds.specs.raft_progress_entry.declared.entry.Inflight.TheVariants as inflight
+use Rattle.proof_deeds.specs.raft_command.declared.command.Command.TheVariants as command
+use Rattle.proof_deeds.specs.raft_command.declared.replication.ReplicationSessionId.{ReplicationSessionId}
+use Rattle.proof_deeds.specs.raft_command.declared.respond.Respond.TheVariants as respond
+use Rattle.proof_deeds.specs.raft_command.declared.sm.CommandPayload.TheVariants as payload
+use Rattle.proof_deeds.specs.raft_command.Queue.{popped}
+use Rattle.proof_deeds.specs.raft_steps.Invariants.{LeaderFits}
+use Rattle.proof_deeds.specs.raft_store.declared.entry.Entry.{Entry}
+use Rattle.proof_deeds.specs.raft_store.Entries.{entry_meaning}
+use Rattle.proof_deeds.specs.raft_store.Store as store
+use Rattle.proof_deeds.specs.raft_store.Store.{past, whole}
+use Rattle.proof_deeds.specs.raft_store.Types.{EngineView, WorldCommand, WorldLeader, WorldPayload, WorldStore}
+use Rattle.proof_deeds.specs.raft_schedule.declared.event.Event.{Event}
+use Rattle.proof_deeds.specs.raft_schedule.declared.event.Outcome.{Outcome}
+use Rattle.proof_deeds.specs.raft_schedule.declared.event.Outcome.TheVariants.{Skipped}
+use Rattle.proof_deeds.specs.raft_schedule.declared.event.SkipReason.{SkipReason}
+use Rattle.proof_deeds.specs.raft_calls.declared.lead.Answer.{Answer}
+use Rattle.proof_deeds.specs.raft_calls.declared.message.Body.{Body}
+use Rattle.proof_deeds.specs.raft_calls.declared.message.Body.TheVariants as body
+use Rattle.proof_deeds.specs.raft_calls.declared.message.Message.{Message}
+use Rattle.proof_deeds.specs.raft_calls.Engines.{WorldRespond, with_queue}
+use Rattle.proof_deeds.specs.raft_calls.Feeds.{feed, feed_of}
+use Rattle.proof_deeds.specs.raft_node.declared.act.Act.{Act}
+use Rattle.proof_deeds.specs.raft_node.declared.given.Given.{Given}
+use Rattle.proof_deeds.specs.raft_node.declared.node.Turn.{Turn}
+use Rattle.proof_deeds.specs.raft_node.Events.{Scene, answer_at, called_at, calls, calls_at, finish, moment_of, played, skip_reason, turn_of, with_answer, work_of}
+use Rattle.proof_deeds.specs.raft_node.Execute.{Effects, exec, exec_payload, heartbeat, others, replicate_committed, replication, replies, reply_to, sending, to_each}
+use Rattle.proof_deeds.specs.raft_node.Net.{NodeView}
+use Rattle.proof_deeds.specs.raft_node.Runs.{whole_logs, world_after}
+use Rattle.proof_deeds.specs.raft_node.WellFormed.{IsWellFormed}
+use Rattle.proof_deeds.specs.raft_node.Work.{Work, one_less, step_of, stopped, stops, weight, work_step, worked}
+use Rattle.proof_deeds.proofs.raft_node_proofs.Ready.{scene_after, skip_moved}
+use Rattle.proof_deeds.proofs.raft_node_proofs.Worked.{worked-keeps}
+use Rattle.proof_deeds.specs.proof_agreement.LeaderNumbers.{leader_node}
+use Rattle.proof_deeds.specs.proof_agreement.Machine.{Setup, last_leader, start}
+use Rattle.proof_deeds.specs.proof_agreement.Stores.{entry_at, last_leader_of}
+use Rattle.proof_deeds.specs.proof_agreement.Stores as stores
+use Rattle.proof_deeds.proofs.proof_agreement_proofs.Invariants.{IsPast}
+use Rattle.proof_deeds.proofs.proof_agreement_proofs.LeaderNumbers.{leader_node-number}
+use Rattle.proof_deeds.proofs.proof_agreement_proofs.StoresFollow.{StoresFollow}
+use Rattle.proof_deeds.specs.proof_mirror.Ready.{FitsBefore, Ready}
 use Rattle.proof_deeds.specs.Chains.{Reached, left_by, stored}
 use Rattle.proof_deeds.specs.Follows.{MessageIs, StoreIs, StreamsAre}
 use Rattle.proof_deeds.specs.Images.{Ideal, IdealStore, IsNamed, IdNamed, images, last_number, number, setup_of}

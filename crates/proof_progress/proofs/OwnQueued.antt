@@ -8,69 +8,69 @@ use Rattle.std.specs.Cmp.{tied_itself}
 use Rattle.std.proofs.lemmas.Bool.{and_parts}
 use Rattle.std.proofs.lemmas.Bool.Decides.{nat_tests}
 use Rattle.std.proofs.lemmas.Cmp.{nat_cmp_total}
-use Rattle.raft_state.specs.declared.ids.LeaderId.{LeaderId}
-use Rattle.raft_state.specs.declared.ids.LogId.{LogId}
-use Rattle.raft_state.specs.declared.ids.Vote.{Vote}
-use Rattle.raft_state.specs.declared.membership.SnapshotMeta.{SnapshotMeta}
-use Rattle.raft_state.specs.declared.membership.StoredMembership.{StoredMembership}
-use Rattle.raft_state.specs.declared.state.ServerState.{ServerState}
-use Rattle.raft_state.specs.declared.state.ServerState.TheVariants as role
-use Rattle.raft_state.specs.Log.{at, last}
-use Rattle.raft_state.specs.Order.{last_id_cmp, leader_id_cmp, next, vote_cmp}
-use Rattle.raft_state.specs.Policy.{should_snapshot}
-use Rattle.raft_state.specs.Same.{leader_id_same, nat_same}
-use Rattle.raft_state.specs.State.{accept, append_membership, by_last_leader, commit, commits, has_log_id, is_leader, is_leading, truncate, undoes_membership}
-use Rattle.raft_state.proofs.LogLists.{each_append}
-use Rattle.raft_state.proofs.Orders.{is_equal, last_total, le_of_not_lt, le_refl, leader_total}
-use Rattle.raft_progress_entry.specs.declared.entry.Inflight.{Inflight}
-use Rattle.raft_progress_entry.specs.declared.entry.Inflight.TheVariants as inflight
-use Rattle.raft_progress_entry.specs.declared.entry.ProgressEntry.{ProgressEntry}
-use Rattle.raft_progress_entry.specs.Entry.{conflicted, matched, next_send, silenced}
-use Rattle.raft_progress.specs.Quorum.{is_quorum}
-use Rattle.raft_progress.specs.Table.{get}
-use Rattle.raft_command.specs.declared.command.Command.TheVariants as command
-use Rattle.raft_command.specs.declared.config.EngineConfig.{EngineConfig}
-use Rattle.raft_command.specs.declared.message.Token.{Token}
-use Rattle.raft_command.specs.declared.message.VoteRequest.{VoteRequest}
-use Rattle.raft_command.specs.declared.message.VoteResponse.{VoteResponse}
-use Rattle.raft_command.specs.declared.replication.ReplicationResult.{ReplicationResult}
-use Rattle.raft_command.specs.declared.replication.RequestId.{RequestId}
-use Rattle.raft_command.specs.declared.sm.CommandPayload.TheVariants as payload
-use Rattle.raft_command.specs.Push.{committed_upto, ordered, with_command}
-use Rattle.raft_command.specs.Queue.{queued}
-use Rattle.raft_command.specs.Replication.{number_of}
-use Rattle.raft_proposer.specs.Candidate.{as_committed, candidate_of, grant_by, into_leader, is_granted}
-use Rattle.raft_proposer.specs.Leader.{assigned, granted_id, leader_in}
-use Rattle.raft_steps.specs.Commit.{commit_by}
-use Rattle.raft_steps.specs.Engine.{as_uncommitted, default_log_id, elect, handle_vote_resp, initialize, is_granted_to, lead_by_votes, may_establish, take_grant, take_rejection}
-use Rattle.raft_steps.specs.EstablishHandler.{outvotes}
-use Rattle.raft_steps.specs.FollowingHandler.{commit_entries, commit_target, do_append_entries, ensure_log_consecutive, holds_previous, memberships_in, new_entries, truncate_for, truncate_logs, with_entries}
-use Rattle.raft_steps.specs.FollowingHandler as following
-use Rattle.raft_steps.specs.Installs.{handle_install_full_snapshot, has_other_at, held_upto, install_and_reply, install_full_snapshot, install_upto, installs, replaces_log, reply_install, truncate_contradicted, with_memberships_of}
-use Rattle.raft_steps.specs.Laws.{later}
-use Rattle.raft_steps.specs.LeaderHandler.{joined, last_proposed, leader_append_entries, proposed}
-use Rattle.raft_steps.specs.LogHandler.{is_target_inflight, purge_log, schedule_policy_based_purge, try_purge_log, update_purge_upto}
-use Rattle.raft_steps.specs.Parts.{leading, on_core, on_leader, then_command, under, with_state}
-use Rattle.raft_steps.specs.Refusals.{rows_in}
-use Rattle.raft_steps.specs.Replies.{on_entry, purge_unless_inflight, send_next, take_reply, update_conflicting, update_failed_progress, update_leader_clock, update_matching, update_progress, update_success_progress}
-use Rattle.raft_steps.specs.ReplicationHandler.{append_membership_led, commit_granted, initiate_replication, is_other, own_matched, rebuild_progresses, rebuild_replication_streams, send_commands, sends_of, silenced_row, update_local_progress, with_entry}
-use Rattle.raft_steps.specs.Requests.{append_entries, follow, handle_append_entries, handle_commit_entries, handle_vote_req, refuses_vote_req}
-use Rattle.raft_steps.specs.ServerStateHandler.{role_commands, update_role}
-use Rattle.raft_steps.specs.SnapshotCalls.{built, finish_building_snapshot, trigger_purge_log}
-use Rattle.raft_steps.specs.SnapshotHandler.{is_newer_snapshot, snapshot_where_due, trigger_snapshot, update_snapshot}
-use Rattle.raft_steps.specs.Starts.{is_settled, lead_on, leader_step_down, startup}
-use Rattle.raft_steps.specs.VoteHandler.{become_following, become_leader, begin_lead, lead_anew, rejects_vote, take_vote, update_internal_server_state, update_vote}
-use Rattle.raft_steps.proofs.EntryLaws.{log_le_leader}
-use Rattle.raft_steps.proofs.Kept.{either, either_option}
-use Rattle.raft_steps.proofs.KeptFollow.{heard_case}
-use Rattle.raft_steps.proofs.LawsQueue.{append_append, append_none}
-use Rattle.raft_steps.proofs.Leads.{vote_same}
-use Rattle.raft_store.specs.declared.config.WorldConfig.{WorldConfig}
-use Rattle.raft_store.specs.declared.entry.Entry.{Entry}
-use Rattle.raft_store.specs.Entries.{entry_meaning}
-use Rattle.raft_store.specs.Types.{WorldCandidate, WorldCommand, WorldLeader, WorldMachine, WorldPayload, WorldSnapshot}
-use Rattle.raft_calls.specs.Feeds.{WorldLed}
-use Rattle.raft_calls.proofs.Falls.{WorldCore}
+use Rattle.proof_deeds.specs.raft_state.declared.ids.LeaderId.{LeaderId}
+use Rattle.proof_deeds.specs.raft_state.declared.ids.LogId.{LogId}
+use Rattle.proof_deeds.specs.raft_state.declared.ids.Vote.{Vote}
+use Rattle.proof_deeds.specs.raft_state.declared.membership.SnapshotMeta.{SnapshotMeta}
+use Rattle.proof_deeds.specs.raft_state.declared.membership.StoredMembership.{StoredMembership}
+use Rattle.proof_deeds.specs.raft_state.declared.state.ServerState.{ServerState}
+use Rattle.proof_deeds.specs.raft_state.declared.state.ServerState.TheVariants as role
+use Rattle.proof_deeds.specs.raft_state.Log.{at, last}
+use Rattle.proof_deeds.specs.raft_state.Order.{last_id_cmp, leader_id_cmp, next, vote_cmp}
+use Rattle.proof_deeds.specs.raft_state.Policy.{should_snapshot}
+use Rattle.proof_deeds.specs.raft_state.Same.{leader_id_same, nat_same}
+use Rattle.proof_deeds.specs.raft_state.State.{accept, append_membership, by_last_leader, commit, commits, has_log_id, is_leader, is_leading, truncate, undoes_membership}
+use Rattle.proof_deeds.proofs.raft_state_proofs.LogLists.{each_append}
+use Rattle.proof_deeds.proofs.raft_state_proofs.Orders.{is_equal, last_total, le_of_not_lt, le_refl, leader_total}
+use Rattle.proof_deeds.specs.raft_progress_entry.declared.entry.Inflight.{Inflight}
+use Rattle.proof_deeds.specs.raft_progress_entry.declared.entry.Inflight.TheVariants as inflight
+use Rattle.proof_deeds.specs.raft_progress_entry.declared.entry.ProgressEntry.{ProgressEntry}
+use Rattle.proof_deeds.specs.raft_progress_entry.Entry.{conflicted, matched, next_send, silenced}
+use Rattle.proof_deeds.specs.raft_progress.Quorum.{is_quorum}
+use Rattle.proof_deeds.specs.raft_progress.Table.{get}
+use Rattle.proof_deeds.specs.raft_command.declared.command.Command.TheVariants as command
+use Rattle.proof_deeds.specs.raft_command.declared.config.EngineConfig.{EngineConfig}
+use Rattle.proof_deeds.specs.raft_command.declared.message.Token.{Token}
+use Rattle.proof_deeds.specs.raft_command.declared.message.VoteRequest.{VoteRequest}
+use Rattle.proof_deeds.specs.raft_command.declared.message.VoteResponse.{VoteResponse}
+use Rattle.proof_deeds.specs.raft_command.declared.replication.ReplicationResult.{ReplicationResult}
+use Rattle.proof_deeds.specs.raft_command.declared.replication.RequestId.{RequestId}
+use Rattle.proof_deeds.specs.raft_command.declared.sm.CommandPayload.TheVariants as payload
+use Rattle.proof_deeds.specs.raft_command.Push.{committed_upto, ordered, with_command}
+use Rattle.proof_deeds.specs.raft_command.Queue.{queued}
+use Rattle.proof_deeds.specs.raft_command.Replication.{number_of}
+use Rattle.proof_deeds.specs.raft_proposer.Candidate.{as_committed, candidate_of, grant_by, into_leader, is_granted}
+use Rattle.proof_deeds.specs.raft_proposer.Leader.{assigned, granted_id, leader_in}
+use Rattle.proof_deeds.specs.raft_steps.Commit.{commit_by}
+use Rattle.proof_deeds.specs.raft_steps.Engine.{as_uncommitted, default_log_id, elect, handle_vote_resp, initialize, is_granted_to, lead_by_votes, may_establish, take_grant, take_rejection}
+use Rattle.proof_deeds.specs.raft_steps.EstablishHandler.{outvotes}
+use Rattle.proof_deeds.specs.raft_steps.FollowingHandler.{commit_entries, commit_target, do_append_entries, ensure_log_consecutive, holds_previous, memberships_in, new_entries, truncate_for, truncate_logs, with_entries}
+use Rattle.proof_deeds.specs.raft_steps.FollowingHandler as following
+use Rattle.proof_deeds.specs.raft_steps.Installs.{handle_install_full_snapshot, has_other_at, held_upto, install_and_reply, install_full_snapshot, install_upto, installs, replaces_log, reply_install, truncate_contradicted, with_memberships_of}
+use Rattle.proof_deeds.specs.raft_steps.Laws.{later}
+use Rattle.proof_deeds.specs.raft_steps.LeaderHandler.{joined, last_proposed, leader_append_entries, proposed}
+use Rattle.proof_deeds.specs.raft_steps.LogHandler.{is_target_inflight, purge_log, schedule_policy_based_purge, try_purge_log, update_purge_upto}
+use Rattle.proof_deeds.specs.raft_steps.Parts.{leading, on_core, on_leader, then_command, under, with_state}
+use Rattle.proof_deeds.specs.raft_steps.Refusals.{rows_in}
+use Rattle.proof_deeds.specs.raft_steps.Replies.{on_entry, purge_unless_inflight, send_next, take_reply, update_conflicting, update_failed_progress, update_leader_clock, update_matching, update_progress, update_success_progress}
+use Rattle.proof_deeds.specs.raft_steps.ReplicationHandler.{append_membership_led, commit_granted, initiate_replication, is_other, own_matched, rebuild_progresses, rebuild_replication_streams, send_commands, sends_of, silenced_row, update_local_progress, with_entry}
+use Rattle.proof_deeds.specs.raft_steps.Requests.{append_entries, follow, handle_append_entries, handle_commit_entries, handle_vote_req, refuses_vote_req}
+use Rattle.proof_deeds.specs.raft_steps.ServerStateHandler.{role_commands, update_role}
+use Rattle.proof_deeds.specs.raft_steps.SnapshotCalls.{built, finish_building_snapshot, trigger_purge_log}
+use Rattle.proof_deeds.specs.raft_steps.SnapshotHandler.{is_newer_snapshot, snapshot_where_due, trigger_snapshot, update_snapshot}
+use Rattle.proof_deeds.specs.raft_steps.Starts.{is_settled, lead_on, leader_step_down, startup}
+use Rattle.proof_deeds.specs.raft_steps.VoteHandler.{become_following, become_leader, begin_lead, lead_anew, rejects_vote, take_vote, update_internal_server_state, update_vote}
+use Rattle.proof_deeds.proofs.raft_steps_proofs.EntryLaws.{log_le_leader}
+use Rattle.proof_deeds.proofs.raft_steps_proofs.Kept.{either, either_option}
+use Rattle.proof_deeds.proofs.raft_steps_proofs.KeptFollow.{heard_case}
+use Rattle.proof_deeds.proofs.raft_steps_proofs.LawsQueue.{append_append, append_none}
+use Rattle.proof_deeds.proofs.raft_steps_proofs.Leads.{vote_same}
+use Rattle.proof_deeds.specs.raft_store.declared.config.WorldConfig.{WorldConfig}
+use Rattle.proof_deeds.specs.raft_store.declared.entry.Entry.{Entry}
+use Rattle.proof_deeds.specs.raft_store.Entries.{entry_meaning}
+use Rattle.proof_deeds.specs.raft_store.Types.{WorldCandidate, WorldCommand, WorldLeader, WorldMachine, WorldPayload, WorldSnapshot}
+use Rattle.proof_deeds.specs.raft_calls.Feeds.{WorldLed}
+use Rattle.proof_deeds.proofs.raft_calls_proofs.Falls.{WorldCore}
 use Rattle.proof_progress.proofs.LeaderStarts.{blank_own}
 use Rattle.proof_progress.proofs.LedQueue.{IsLedCommand, LedQueues, before_sent, granted_queues}
 

@@ -1,16 +1,16 @@
 -- Plans, one step after another.
 use Rattle.std.proofs.Common.{ℕ, zero, suc, ◌-◌, ◌*◌, ◌≡◌, List, [], ◌∷◌, ◌++◌, refl, sym, ap, ◌∙◌, Option, None, Some}
 use Rattle.std.specs.Prelude.{drop}
-use Rattle.raft_state.specs.declared.ids.LogId.{LogId}
-use Rattle.raft_state.specs.declared.ids.Vote.{Vote}
-use Rattle.raft_state.specs.Order.{next}
-use Rattle.raft_steps.proofs.LawsQueue.{append_append}
-use Rattle.raft_store.specs.declared.entry.Entry.{Entry}
-use Rattle.raft_store.specs.Types.{EngineView}
-use Rattle.raft_schedule.specs.declared.event.Event.{Event}
-use Rattle.raft_node.specs.declared.given.Given.{Given}
-use Rattle.raft_node.specs.Net.{Net}
-use Rattle.raft_node.specs.Runs.{world_after}
+use Rattle.proof_deeds.specs.raft_state.declared.ids.LogId.{LogId}
+use Rattle.proof_deeds.specs.raft_state.declared.ids.Vote.{Vote}
+use Rattle.proof_deeds.specs.raft_state.Order.{next}
+use Rattle.proof_deeds.proofs.raft_steps_proofs.LawsQueue.{append_append}
+use Rattle.proof_deeds.specs.raft_store.declared.entry.Entry.{Entry}
+use Rattle.proof_deeds.specs.raft_store.Types.{EngineView}
+use Rattle.proof_deeds.specs.raft_schedule.declared.event.Event.{Event}
+use Rattle.proof_deeds.specs.raft_node.declared.given.Given.{Given}
+use Rattle.proof_deeds.specs.raft_node.Net.{Net}
+use Rattle.proof_deeds.specs.raft_node.Runs.{world_after}
 use Rattle.proof_progress.specs.Continuations.{deliver, fail, goes_on, timeout}
 use Rattle.proof_progress.specs.Elections.{log_end}
 use Rattle.proof_progress.specs.Plans.{bring, bring_all, collect, exchange, exchanges, number_of, request_to, running, sends, tell, tell_all, tells}

@@ -6,55 +6,55 @@ use Rattle.std.specs.Option.{option_or}
 use Rattle.std.specs.Ordering.{is_eq, is_lt, nat_cmp}
 use Rattle.std.proofs.lemmas.Bool.Decides.{nat_tests}
 use Rattle.std.proofs.lemmas.Cmp.{nat_cmp_total}
-use Rattle.raft_state.specs.declared.ids.LogId.{LogId}
-use Rattle.raft_state.specs.declared.ids.Vote.{Vote}
-use Rattle.raft_state.specs.declared.membership.StoredMembership.{StoredMembership}
-use Rattle.raft_state.specs.Fits.{is_within}
-use Rattle.raft_state.specs.Log.{last}
-use Rattle.raft_state.specs.Order.{last_id_cmp, next, vote_cmp}
-use Rattle.raft_state.specs.Same.{nat_same}
-use Rattle.raft_state.specs.State.{extend}
-use Rattle.raft_state.proofs.Orders.{lt_is_le, within_of}
-use Rattle.raft_state.proofs.StateLaws.{fits_append}
-use Rattle.raft_progress_entry.specs.declared.entry.ProgressEntry.{ProgressEntry}
-use Rattle.raft_progress_entry.specs.Entry.{next_send, sent}
-use Rattle.raft_error.specs.declared.error.EngineError.{EngineError}
-use Rattle.raft_error.specs.declared.error.EngineError.TheVariants.{CounterEnd, IndexEnd, OutsideInflight, Spent}
-use Rattle.raft_error.specs.Number.{first_refusal}
-use Rattle.raft_progress.specs.Table.{get}
-use Rattle.raft_command.specs.Queue.{Queue}
-use Rattle.raft_command.specs.declared.command.Command.TheVariants.{AppendInputEntries}
-use Rattle.raft_command.specs.declared.config.EngineConfig.{EngineConfig}
-use Rattle.raft_command.specs.declared.replication.ReplicationSessionId.{ReplicationSessionId}
-use Rattle.raft_proposer.specs.Joint.{u64_max}
-use Rattle.raft_proposer.specs.Leader.{assigned, last_assigned}
-use Rattle.raft_steps.specs.Invariants.{EntryFits, IsSoundLed}
-use Rattle.raft_steps.specs.LeaderHandler.{leader_append_entries, proposed as proposed_by}
-use Rattle.raft_steps.specs.Parts.{leading, led_of}
-use Rattle.raft_steps.specs.Refusals.{is_counter_end_among, is_outside, refusals_of_local_progress, refusals_of_propose}
-use Rattle.raft_steps.specs.ReplicationHandler.{initiate_replication, sends_of, sent_row, update_local_progress}
-use Rattle.raft_store.specs.declared.entry.Entry.{Entry}
-use Rattle.raft_store.specs.declared.entry.Value.{Value}
-use Rattle.raft_store.specs.Entries.{entry_meaning}
-use Rattle.raft_store.specs.Types.{EngineView, WorldCommand, WorldLeader}
-use Rattle.raft_schedule.specs.declared.event.Event.{Event}
-use Rattle.raft_schedule.specs.declared.event.SkipReason.{SkipReason}
-use Rattle.raft_schedule.specs.declared.event.SkipReason.TheVariants.{NotOwnVote, NotRunning}
-use Rattle.raft_node.specs.declared.act.Act.TheVariants.{Propose}
-use Rattle.raft_node.specs.declared.given.Given.{Given}
-use Rattle.raft_node.specs.declared.node.Turn.{Turn}
-use Rattle.raft_calls.specs.Deliveries.{answered as call_answered, unled_number, with_machine}
-use Rattle.raft_calls.specs.Feeds.{WorldLed, called, feed, hold_own, last_sent}
-use Rattle.raft_calls.specs.LeaderCalls.{proposed, skip_propose, value_entry}
-use Rattle.raft_node.specs.Events.{happens, message_at, skip_reason, turn_of}
-use Rattle.raft_node.specs.Execute.{exec, heartbeat, origin}
-use Rattle.raft_calls.specs.declared.message.Message.{Message}
-use Rattle.raft_command.specs.declared.replication.RequestId.TheVariants as request
-use Rattle.raft_node.specs.Net.{Net, NodeView, Records}
-use Rattle.raft_node.specs.Runs.{whole_logs, world_after}
-use Rattle.raft_node.specs.WellFormed.{IsWellFormed}
-use Rattle.raft_node.specs.Work.{Work, weight, work_step, worked}
-use Rattle.raft_node.proofs.Worked.{worked-step}
+use Rattle.proof_deeds.specs.raft_state.declared.ids.LogId.{LogId}
+use Rattle.proof_deeds.specs.raft_state.declared.ids.Vote.{Vote}
+use Rattle.proof_deeds.specs.raft_state.declared.membership.StoredMembership.{StoredMembership}
+use Rattle.proof_deeds.specs.raft_state.Fits.{is_within}
+use Rattle.proof_deeds.specs.raft_state.Log.{last}
+use Rattle.proof_deeds.specs.raft_state.Order.{last_id_cmp, next, vote_cmp}
+use Rattle.proof_deeds.specs.raft_state.Same.{nat_same}
+use Rattle.proof_deeds.specs.raft_state.State.{extend}
+use Rattle.proof_deeds.proofs.raft_state_proofs.Orders.{lt_is_le, within_of}
+use Rattle.proof_deeds.proofs.raft_state_proofs.StateLaws.{fits_append}
+use Rattle.proof_deeds.specs.raft_progress_entry.declared.entry.ProgressEntry.{ProgressEntry}
+use Rattle.proof_deeds.specs.raft_progress_entry.Entry.{next_send, sent}
+use Rattle.proof_deeds.specs.raft_error.declared.error.EngineError.{EngineError}
+use Rattle.proof_deeds.specs.raft_error.declared.error.EngineError.TheVariants.{CounterEnd, IndexEnd, OutsideInflight, Spent}
+use Rattle.proof_deeds.specs.raft_error.Number.{first_refusal}
+use Rattle.proof_deeds.specs.raft_progress.Table.{get}
+use Rattle.proof_deeds.specs.raft_command.Queue.{Queue}
+use Rattle.proof_deeds.specs.raft_command.declared.command.Command.TheVariants.{AppendInputEntries}
+use Rattle.proof_deeds.specs.raft_command.declared.config.EngineConfig.{EngineConfig}
+use Rattle.proof_deeds.specs.raft_command.declared.replication.ReplicationSessionId.{ReplicationSessionId}
+use Rattle.proof_deeds.specs.raft_proposer.Joint.{u64_max}
+use Rattle.proof_deeds.specs.raft_proposer.Leader.{assigned, last_assigned}
+use Rattle.proof_deeds.specs.raft_steps.Invariants.{EntryFits, IsSoundLed}
+use Rattle.proof_deeds.specs.raft_steps.LeaderHandler.{leader_append_entries, proposed as proposed_by}
+use Rattle.proof_deeds.specs.raft_steps.Parts.{leading, led_of}
+use Rattle.proof_deeds.specs.raft_steps.Refusals.{is_counter_end_among, is_outside, refusals_of_local_progress, refusals_of_propose}
+use Rattle.proof_deeds.specs.raft_steps.ReplicationHandler.{initiate_replication, sends_of, sent_row, update_local_progress}
+use Rattle.proof_deeds.specs.raft_store.declared.entry.Entry.{Entry}
+use Rattle.proof_deeds.specs.raft_store.declared.entry.Value.{Value}
+use Rattle.proof_deeds.specs.raft_store.Entries.{entry_meaning}
+use Rattle.proof_deeds.specs.raft_store.Types.{EngineView, WorldCommand, WorldLeader}
+use Rattle.proof_deeds.specs.raft_schedule.declared.event.Event.{Event}
+use Rattle.proof_deeds.specs.raft_schedule.declared.event.SkipReason.{SkipReason}
+use Rattle.proof_deeds.specs.raft_schedule.declared.event.SkipReason.TheVariants.{NotOwnVote, NotRunning}
+use Rattle.proof_deeds.specs.raft_node.declared.act.Act.TheVariants.{Propose}
+use Rattle.proof_deeds.specs.raft_node.declared.given.Given.{Given}
+use Rattle.proof_deeds.specs.raft_node.declared.node.Turn.{Turn}
+use Rattle.proof_deeds.specs.raft_calls.Deliveries.{answered as call_answered, unled_number, with_machine}
+use Rattle.proof_deeds.specs.raft_calls.Feeds.{WorldLed, called, feed, hold_own, last_sent}
+use Rattle.proof_deeds.specs.raft_calls.LeaderCalls.{proposed, skip_propose, value_entry}
+use Rattle.proof_deeds.specs.raft_node.Events.{happens, message_at, skip_reason, turn_of}
+use Rattle.proof_deeds.specs.raft_node.Execute.{exec, heartbeat, origin}
+use Rattle.proof_deeds.specs.raft_calls.declared.message.Message.{Message}
+use Rattle.proof_deeds.specs.raft_command.declared.replication.RequestId.TheVariants as request
+use Rattle.proof_deeds.specs.raft_node.Net.{Net, NodeView, Records}
+use Rattle.proof_deeds.specs.raft_node.Runs.{whole_logs, world_after}
+use Rattle.proof_deeds.specs.raft_node.WellFormed.{IsWellFormed}
+use Rattle.proof_deeds.specs.raft_node.Work.{Work, weight, work_step, worked}
+use Rattle.proof_deeds.proofs.raft_node_proofs.Worked.{worked-step}
 use Rattle.proof_deeds.proofs.Drains.{takes}
 use Rattle.proof_progress.specs.CatchUps.{CanServe, log_len}
 use Rattle.proof_progress.specs.Commits.{IsBehind, ProposedAfter, WorldsPropose}
@@ -79,7 +79,7 @@ use Rattle.proof_progress.proofs.Rounds.{fits_of, sent_matching}
 use Rattle.proof_progress.proofs.Values.{holds_given, holds_left}
 use Rattle.proof_progress.proofs.Works.{Effected, at_work, queueing, vote_itself}
 use Rattle.proof_progress.proofs.WorksOff.{all_streams_stay, bag_grows, each_feeds, exec_each, led_feeds, left_by_all, message_stays, tells_sent, works_off}
-use Rattle.raft_state.proofs.LogLists.{each_append}
+use Rattle.proof_deeds.proofs.raft_state_proofs.LogLists.{each_append}
 
 -- entries with values, as many as there are, without memberships
 pub same_length : (xs : List Value) → length (map value_entry xs) ≡ length xs

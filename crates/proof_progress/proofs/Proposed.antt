@@ -8,36 +8,36 @@ use Rattle.std.proofs.lemmas.Bool.{ne_eqb}
 use Rattle.std.specs.declared.cmp.Ordering.{Ordering}
 use Rattle.std.specs.declared.cmp.Ordering.TheVariants.{Equal, Greater, Less}
 use Rattle.std.specs.Ordering.{is_eq, is_ge, is_le, ordering_reverse}
-use Rattle.raft_state.specs.declared.config.RaftEntry
-use Rattle.raft_state.specs.declared.ids.LeaderId.{LeaderId}
-use Rattle.raft_state.specs.declared.ids.LogId.{LogId}
-use Rattle.raft_state.specs.declared.membership.StoredMembership.{StoredMembership}
-use Rattle.raft_state.specs.declared.state.RaftState.{RaftState}
-use Rattle.raft_state.specs.Fits.{fits, is_below}
-use Rattle.raft_state.specs.Log.{at, last}
-use Rattle.raft_state.specs.Order.{last_id_cmp, next}
-use Rattle.raft_state.specs.State.{is_found}
-use Rattle.raft_state.proofs.Orders.{is_equal, last_total, le_antisymm, or_left, vote_eq_leader}
-use Rattle.raft_state.proofs.StateLaws.{is_found_at}
-use Rattle.raft_progress_entry.specs.declared.entry.ProgressEntry.{ProgressEntry}
-use Rattle.raft_progress_entry.specs.Entry.{next_send, sent, silenced}
-use Rattle.raft_progress.specs.Quorum.{is_quorum}
-use Rattle.raft_progress.specs.Table.{get, is_row_of, row_of, voter_rows}
-use Rattle.raft_command.specs.declared.config.EngineConfig.{EngineConfig}
-use Rattle.raft_proposer.specs.Joint.{JointLeader}
-use Rattle.raft_proposer.specs.Leader.{assigned, granted_id, numbered}
-use Rattle.raft_proposer.proofs.Elements.{In, contains_in}
-use Rattle.raft_steps.specs.Conditions.{may_change_membership}
-use Rattle.raft_steps.specs.FollowingHandler.{memberships_in}
-use Rattle.raft_steps.specs.Invariants.{EntryFits, IsSoundLed}
-use Rattle.raft_steps.specs.Laws.{CommitsLatest, is_of, takes_local}
-use Rattle.raft_steps.specs.LeaderHandler.{joined, last_proposed, leader_append_entries, proposed}
-use Rattle.raft_steps.specs.Parts.{Led}
-use Rattle.raft_steps.specs.ReplicationHandler.{commit_granted, initiate_replication, is_other, own_matched, sent_row, update_local_progress, with_entry}
-use Rattle.raft_steps.proofs.Kept.{TakesIds, either, either_option}
-use Rattle.raft_steps.proofs.KeptCommit.{leader_append_kept, local_kept}
-use Rattle.raft_steps.proofs.KeptLead.{assigned_last}
-use Rattle.raft_steps.proofs.LawsCommit.{local_law}
+use Rattle.proof_deeds.specs.raft_state.declared.config.RaftEntry
+use Rattle.proof_deeds.specs.raft_state.declared.ids.LeaderId.{LeaderId}
+use Rattle.proof_deeds.specs.raft_state.declared.ids.LogId.{LogId}
+use Rattle.proof_deeds.specs.raft_state.declared.membership.StoredMembership.{StoredMembership}
+use Rattle.proof_deeds.specs.raft_state.declared.state.RaftState.{RaftState}
+use Rattle.proof_deeds.specs.raft_state.Fits.{fits, is_below}
+use Rattle.proof_deeds.specs.raft_state.Log.{at, last}
+use Rattle.proof_deeds.specs.raft_state.Order.{last_id_cmp, next}
+use Rattle.proof_deeds.specs.raft_state.State.{is_found}
+use Rattle.proof_deeds.proofs.raft_state_proofs.Orders.{is_equal, last_total, le_antisymm, or_left, vote_eq_leader}
+use Rattle.proof_deeds.proofs.raft_state_proofs.StateLaws.{is_found_at}
+use Rattle.proof_deeds.specs.raft_progress_entry.declared.entry.ProgressEntry.{ProgressEntry}
+use Rattle.proof_deeds.specs.raft_progress_entry.Entry.{next_send, sent, silenced}
+use Rattle.proof_deeds.specs.raft_progress.Quorum.{is_quorum}
+use Rattle.proof_deeds.specs.raft_progress.Table.{get, is_row_of, row_of, voter_rows}
+use Rattle.proof_deeds.specs.raft_command.declared.config.EngineConfig.{EngineConfig}
+use Rattle.proof_deeds.specs.raft_proposer.Joint.{JointLeader}
+use Rattle.proof_deeds.specs.raft_proposer.Leader.{assigned, granted_id, numbered}
+use Rattle.proof_deeds.proofs.raft_proposer_proofs.Elements.{In, contains_in}
+use Rattle.proof_deeds.specs.raft_steps.Conditions.{may_change_membership}
+use Rattle.proof_deeds.specs.raft_steps.FollowingHandler.{memberships_in}
+use Rattle.proof_deeds.specs.raft_steps.Invariants.{EntryFits, IsSoundLed}
+use Rattle.proof_deeds.specs.raft_steps.Laws.{CommitsLatest, is_of, takes_local}
+use Rattle.proof_deeds.specs.raft_steps.LeaderHandler.{joined, last_proposed, leader_append_entries, proposed}
+use Rattle.proof_deeds.specs.raft_steps.Parts.{Led}
+use Rattle.proof_deeds.specs.raft_steps.ReplicationHandler.{commit_granted, initiate_replication, is_other, own_matched, sent_row, update_local_progress, with_entry}
+use Rattle.proof_deeds.proofs.raft_steps_proofs.Kept.{TakesIds, either, either_option}
+use Rattle.proof_deeds.proofs.raft_steps_proofs.KeptCommit.{leader_append_kept, local_kept}
+use Rattle.proof_deeds.proofs.raft_steps_proofs.KeptLead.{assigned_last}
+use Rattle.proof_deeds.proofs.raft_steps_proofs.LawsCommit.{local_law}
 use Rattle.proof_progress.specs.Proposals.{EachOnce, IsVoter, Proposes, Replicated, ReplicatedTo, id_past}
 use Rattle.proof_progress.specs.Replication.{Handles, IsMatchedVoter, Rounds}
 use Rattle.proof_progress.proofs.Matches.{all_committed, in_contains, last_commits, same_last}

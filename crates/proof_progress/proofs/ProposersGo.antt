@@ -1,13 +1,13 @@
 -- Where no learner stood, and each proposer of a membership stayed a voter, a majority of each group of the greatest log goes on with its node.
 use Rattle.std.proofs.Common.{ℕ, ◌≡◌, true, List, ◌∷◌, length, map, sym, subst}
 use Rattle.std.specs.Ordering.{nat_cmp}
-use Rattle.raft_state.specs.Members.{voter_ids}
-use Rattle.raft_state.specs.Sorted.{has_id}
-use Rattle.raft_progress.specs.Quorum.{is_quorum}
-use Rattle.raft_store.specs.declared.entry.Entry.{Entry}
-use Rattle.raft_node.specs.declared.given.Given.{Given}
-use Rattle.raft_node.specs.Net.{Net, NodeView}
-use Rattle.raft_node.specs.Runs.{world_after}
+use Rattle.proof_deeds.specs.raft_state.Members.{voter_ids}
+use Rattle.proof_deeds.specs.raft_state.Sorted.{has_id}
+use Rattle.proof_deeds.specs.raft_progress.Quorum.{is_quorum}
+use Rattle.proof_deeds.specs.raft_store.declared.entry.Entry.{Entry}
+use Rattle.proof_deeds.specs.raft_node.declared.given.Given.{Given}
+use Rattle.proof_deeds.specs.raft_node.Net.{Net, NodeView}
+use Rattle.proof_deeds.specs.raft_node.Runs.{world_after}
 use Rattle.proof_progress.specs.Changes.{CanGoOnBy, CanGoOnWith, HasGreatestLog, ProposersCommit, voters_among}
 use Rattle.proof_progress.specs.Elections.{members}
 use Rattle.proof_progress.specs.GoesOn.{Reaches, found}

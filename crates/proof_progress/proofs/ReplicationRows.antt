@@ -2,17 +2,17 @@
 use Rattle.std.specs.Prelude.{ℕ, ◌≡◌, false, [], ◌∷◌, None, Some, Ok, refl}
 use Rattle.std.proofs.Common.{arith}
 use Rattle.std.specs.Ordering.{nat_cmp}
-use Rattle.raft_proposer.specs.Leader.{leader_of}
-use Rattle.raft_progress_entry.specs.declared.entry.Inflight.TheVariants as inflight
-use Rattle.raft_command.specs.declared.replication.RequestId.TheVariants as request
-use Rattle.raft_steps.specs.declared.plain.Entry.{Entry}
-use Rattle.raft_steps.specs.Commit.{commit_by}
-use Rattle.raft_steps.specs.Invariants.{IsSoundLed}
-use Rattle.raft_steps.specs.LogHandler.{purge_log, try_purge_log}
-use Rattle.raft_steps.specs.Replies.{purge_unless_inflight, send_next, update_leader_clock, update_matching, update_progress, update_success_progress}
-use Rattle.raft_steps.specs.ReplicationHandler.{initiate_replication, try_commit_quorum_accepted, update_local_progress}
-use Rattle.raft_steps.specs.SnapshotHandler.{snapshot_where_due, trigger_snapshot}
-use Rattle.raft_steps.proofs.Example.{PlainLed, committed, core, lid, settings, state}
+use Rattle.proof_deeds.specs.raft_proposer.Leader.{leader_of}
+use Rattle.proof_deeds.specs.raft_progress_entry.declared.entry.Inflight.TheVariants as inflight
+use Rattle.proof_deeds.specs.raft_command.declared.replication.RequestId.TheVariants as request
+use Rattle.proof_deeds.specs.raft_steps.declared.plain.Entry.{Entry}
+use Rattle.proof_deeds.specs.raft_steps.Commit.{commit_by}
+use Rattle.proof_deeds.specs.raft_steps.Invariants.{IsSoundLed}
+use Rattle.proof_deeds.specs.raft_steps.LogHandler.{purge_log, try_purge_log}
+use Rattle.proof_deeds.specs.raft_steps.Replies.{purge_unless_inflight, send_next, update_leader_clock, update_matching, update_progress, update_success_progress}
+use Rattle.proof_deeds.specs.raft_steps.ReplicationHandler.{initiate_replication, try_commit_quorum_accepted, update_local_progress}
+use Rattle.proof_deeds.specs.raft_steps.SnapshotHandler.{snapshot_where_due, trigger_snapshot}
+use Rattle.proof_deeds.proofs.raft_steps_proofs.Example.{PlainLed, committed, core, lid, settings, state}
 use Rattle.proof_progress.specs.Replication.{IsAsked, IsMatched, Replicates, Rounds, answered}
 
 abbrev begun : PlainLed

@@ -1,36 +1,36 @@
 -- A node that doesn't lead by its stored vote starts: it follows, at rest, and sends nothing.
 use Rattle.std.proofs.Common.{ℕ, ◌≤◌, ◌≡◌, ◌≢◌, Bool, true, false, ◌&&◌, List, [], ◌∷◌, refl, sym, ap, ◌∙◌, subst, Option, None, Some}
 use Rattle.std.specs.Prelude.{◌==◌, if◌then◌else◌}
-use Rattle.raft_proposer.specs.Joint.{u64_max}
+use Rattle.proof_deeds.specs.raft_proposer.Joint.{u64_max}
 use Rattle.std.specs.Ordering.{is_eq, nat_cmp}
-use Rattle.raft_state.specs.declared.ids.Vote.{Vote}
-use Rattle.raft_state.specs.declared.state.ServerState.TheVariants.{Follower, Learner, Leader}
-use Rattle.raft_state.specs.Members.{contains, is_voter}
-use Rattle.raft_state.specs.State.{is_leader}
-use Rattle.raft_error.specs.declared.error.EngineError.{EngineError}
-use Rattle.raft_error.specs.declared.error.EngineError.TheVariants.{IndexEnd}
-use Rattle.raft_error.specs.Number.{first_refusal}
-use Rattle.raft_command.specs.declared.config.EngineConfig.{EngineConfig}
-use Rattle.raft_steps.specs.Room.{is_full}
-use Rattle.raft_steps.specs.Starts.{refusals_of_startup, startup}
-use Rattle.raft_store.specs.declared.entry.Entry.{Entry}
-use Rattle.raft_store.specs.Entries.{entry_meaning}
-use Rattle.raft_store.specs.Restart.{restarted, started}
-use Rattle.raft_store.specs.Types.{EngineView, WorldMachine}
-use Rattle.raft_schedule.specs.declared.event.Outcome.{Outcome}
-use Rattle.raft_schedule.specs.declared.event.Outcome.TheVariants.{Done, Skipped}
-use Rattle.raft_schedule.specs.declared.event.SkipReason.{SkipReason}
-use Rattle.raft_node.specs.declared.act.Act.TheVariants.{Restart}
-use Rattle.raft_node.specs.declared.given.Given.{Given}
-use Rattle.raft_calls.specs.Deliveries.{with_machine}
-use Rattle.raft_node.specs.Events.{Scene, called_at, calls, finish, happens, moment_of, outcome_of, played, scene, scene_of, turn_of, with_answer}
-use Rattle.raft_node.specs.Execute.{effects}
-use Rattle.raft_node.specs.Net.{Net, NodeView, Records, no_streams}
-use Rattle.raft_node.specs.Runs.{whole_logs}
-use Rattle.raft_node.specs.Starts.{engine_on, restart, resumed_on, started_with}
-use Rattle.raft_calls.specs.Starts.{resumed}
-use Rattle.raft_node.specs.Work.{Work, weight}
-use Rattle.raft_node.proofs.Worked.{worked-idle}
+use Rattle.proof_deeds.specs.raft_state.declared.ids.Vote.{Vote}
+use Rattle.proof_deeds.specs.raft_state.declared.state.ServerState.TheVariants.{Follower, Learner, Leader}
+use Rattle.proof_deeds.specs.raft_state.Members.{contains, is_voter}
+use Rattle.proof_deeds.specs.raft_state.State.{is_leader}
+use Rattle.proof_deeds.specs.raft_error.declared.error.EngineError.{EngineError}
+use Rattle.proof_deeds.specs.raft_error.declared.error.EngineError.TheVariants.{IndexEnd}
+use Rattle.proof_deeds.specs.raft_error.Number.{first_refusal}
+use Rattle.proof_deeds.specs.raft_command.declared.config.EngineConfig.{EngineConfig}
+use Rattle.proof_deeds.specs.raft_steps.Room.{is_full}
+use Rattle.proof_deeds.specs.raft_steps.Starts.{refusals_of_startup, startup}
+use Rattle.proof_deeds.specs.raft_store.declared.entry.Entry.{Entry}
+use Rattle.proof_deeds.specs.raft_store.Entries.{entry_meaning}
+use Rattle.proof_deeds.specs.raft_store.Restart.{restarted, started}
+use Rattle.proof_deeds.specs.raft_store.Types.{EngineView, WorldMachine}
+use Rattle.proof_deeds.specs.raft_schedule.declared.event.Outcome.{Outcome}
+use Rattle.proof_deeds.specs.raft_schedule.declared.event.Outcome.TheVariants.{Done, Skipped}
+use Rattle.proof_deeds.specs.raft_schedule.declared.event.SkipReason.{SkipReason}
+use Rattle.proof_deeds.specs.raft_node.declared.act.Act.TheVariants.{Restart}
+use Rattle.proof_deeds.specs.raft_node.declared.given.Given.{Given}
+use Rattle.proof_deeds.specs.raft_calls.Deliveries.{with_machine}
+use Rattle.proof_deeds.specs.raft_node.Events.{Scene, called_at, calls, finish, happens, moment_of, outcome_of, played, scene, scene_of, turn_of, with_answer}
+use Rattle.proof_deeds.specs.raft_node.Execute.{effects}
+use Rattle.proof_deeds.specs.raft_node.Net.{Net, NodeView, Records, no_streams}
+use Rattle.proof_deeds.specs.raft_node.Runs.{whole_logs}
+use Rattle.proof_deeds.specs.raft_node.Starts.{engine_on, restart, resumed_on, started_with}
+use Rattle.proof_deeds.specs.raft_calls.Starts.{resumed}
+use Rattle.proof_deeds.specs.raft_node.Work.{Work, weight}
+use Rattle.proof_deeds.proofs.raft_node_proofs.Worked.{worked-idle}
 use Rattle.proof_progress.specs.Continuations.{At, start_by, restart as restart_at}
 use Rattle.proof_progress.proofs.Conditions.{EngineStands}
 use Rattle.proof_progress.proofs.Images.{started_engine}

@@ -6,19 +6,19 @@ use Rattle.std.specs.declared.cmp.Ordering.TheVariants.{Greater}
 use Rattle.std.specs.List.{AllByRecursion}
 use Rattle.std.specs.Ordering.{bool_cmp, is_eq, nat_cmp, ordering_then}
 use Rattle.std.proofs.lemmas.Bool.Decides.{nat_tests}
-use Rattle.raft_state.specs.declared.ids.LeaderId.{LeaderId}
-use Rattle.raft_state.specs.declared.ids.Vote.{Vote}
-use Rattle.raft_state.specs.Order.{vote_cmp}
-use Rattle.raft_progress.specs.Quorum.{is_quorum}
-use Rattle.raft_proposer.specs.Joint.{u64_max}
-use Rattle.raft_store.specs.declared.entry.Entry.{Entry}
-use Rattle.raft_store.specs.Types.{EngineView}
-use Rattle.raft_schedule.specs.declared.event.Event.{Event}
-use Rattle.raft_node.specs.declared.given.Given.{Given}
-use Rattle.raft_node.specs.Events.{happens}
-use Rattle.raft_node.specs.Net.{Net}
-use Rattle.raft_node.specs.Runs.{whole_logs}
-use Rattle.raft_node.specs.Work.{weight}
+use Rattle.proof_deeds.specs.raft_state.declared.ids.LeaderId.{LeaderId}
+use Rattle.proof_deeds.specs.raft_state.declared.ids.Vote.{Vote}
+use Rattle.proof_deeds.specs.raft_state.Order.{vote_cmp}
+use Rattle.proof_deeds.specs.raft_progress.Quorum.{is_quorum}
+use Rattle.proof_deeds.specs.raft_proposer.Joint.{u64_max}
+use Rattle.proof_deeds.specs.raft_store.declared.entry.Entry.{Entry}
+use Rattle.proof_deeds.specs.raft_store.Types.{EngineView}
+use Rattle.proof_deeds.specs.raft_schedule.declared.event.Event.{Event}
+use Rattle.proof_deeds.specs.raft_node.declared.given.Given.{Given}
+use Rattle.proof_deeds.specs.raft_node.Events.{happens}
+use Rattle.proof_deeds.specs.raft_node.Net.{Net}
+use Rattle.proof_deeds.specs.raft_node.Runs.{whole_logs}
+use Rattle.proof_deeds.specs.raft_node.Work.{weight}
 use Rattle.proof_progress.specs.Continuations.{goes_on, timeout}
 use Rattle.proof_progress.proofs.Afresh.{since_then}
 use Rattle.proof_progress.proofs.Beside.{Elected, beside_changed, beside_then}

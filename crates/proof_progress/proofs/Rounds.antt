@@ -6,42 +6,42 @@ use Rattle.std.specs.Cmp.{IsTotalOrder, tied_itself}
 use Rattle.std.specs.declared.cmp.Ordering.{Ordering}
 use Rattle.std.specs.declared.cmp.Ordering.TheVariants.{Equal}
 use Rattle.std.specs.Ordering.{is_eq}
-use Rattle.raft_state.specs.declared.ids.LogId.{LogId}
-use Rattle.raft_state.specs.declared.state.RaftState.{RaftState}
-use Rattle.raft_state.specs.Log.{last}
-use Rattle.raft_state.specs.Order.{last_id_cmp, leader_id_cmp, next}
-use Rattle.raft_state.proofs.Orders.{is_equal, last_total}
-use Rattle.raft_progress_entry.specs.declared.entry.Inflight.{Inflight}
-use Rattle.raft_progress_entry.specs.declared.entry.Inflight.TheVariants as inflight
-use Rattle.raft_progress_entry.specs.declared.entry.LogIdRange.{LogIdRange}
-use Rattle.raft_progress_entry.specs.declared.entry.ProgressEntry.{ProgressEntry}
-use Rattle.raft_progress_entry.specs.Entry.{conflicted, matched, next_send, remaining, sent, silenced}
-use Rattle.raft_progress.specs.Quorum.{is_quorum}
-use Rattle.raft_progress.specs.Table.{get, is_row_of, row_of, voter_rows, with_value}
-use Rattle.raft_command.specs.declared.command.Command.TheVariants.{ReplicateCommitted}
-use Rattle.raft_command.specs.Queue.{queued}
-use Rattle.raft_command.specs.declared.config.EngineConfig.{EngineConfig}
-use Rattle.raft_error.specs.declared.error.EngineError.TheVariants.{UnknownTarget}
-use Rattle.raft_proposer.specs.Joint.{JointLeader}
-use Rattle.raft_proposer.specs.Leader.{granted_id}
-use Rattle.raft_proposer.proofs.Tables.{same_id}
+use Rattle.proof_deeds.specs.raft_state.declared.ids.LogId.{LogId}
+use Rattle.proof_deeds.specs.raft_state.declared.state.RaftState.{RaftState}
+use Rattle.proof_deeds.specs.raft_state.Log.{last}
+use Rattle.proof_deeds.specs.raft_state.Order.{last_id_cmp, leader_id_cmp, next}
+use Rattle.proof_deeds.proofs.raft_state_proofs.Orders.{is_equal, last_total}
+use Rattle.proof_deeds.specs.raft_progress_entry.declared.entry.Inflight.{Inflight}
+use Rattle.proof_deeds.specs.raft_progress_entry.declared.entry.Inflight.TheVariants as inflight
+use Rattle.proof_deeds.specs.raft_progress_entry.declared.entry.LogIdRange.{LogIdRange}
+use Rattle.proof_deeds.specs.raft_progress_entry.declared.entry.ProgressEntry.{ProgressEntry}
+use Rattle.proof_deeds.specs.raft_progress_entry.Entry.{conflicted, matched, next_send, remaining, sent, silenced}
+use Rattle.proof_deeds.specs.raft_progress.Quorum.{is_quorum}
+use Rattle.proof_deeds.specs.raft_progress.Table.{get, is_row_of, row_of, voter_rows, with_value}
+use Rattle.proof_deeds.specs.raft_command.declared.command.Command.TheVariants.{ReplicateCommitted}
+use Rattle.proof_deeds.specs.raft_command.Queue.{queued}
+use Rattle.proof_deeds.specs.raft_command.declared.config.EngineConfig.{EngineConfig}
+use Rattle.proof_deeds.specs.raft_error.declared.error.EngineError.TheVariants.{UnknownTarget}
+use Rattle.proof_deeds.specs.raft_proposer.Joint.{JointLeader}
+use Rattle.proof_deeds.specs.raft_proposer.Leader.{granted_id}
+use Rattle.proof_deeds.proofs.raft_proposer_proofs.Tables.{same_id}
 use Rattle.proof_progress.specs.Proposals.{Fails}
-use Rattle.raft_command.specs.Replication.{number_of}
-use Rattle.raft_command.specs.declared.replication.RequestId.{RequestId}
-use Rattle.raft_steps.specs.Invariants.{EntryFits, IsSoundLed}
-use Rattle.raft_steps.specs.LogHandler.{is_target_inflight, purge_log, try_purge_log}
-use Rattle.raft_steps.specs.Parts.{Core, Led, under}
-use Rattle.raft_steps.specs.Replies.{on_entry, purge_unless_inflight, send_next, update_conflicting, update_failed_progress, update_leader_clock, update_matching, update_progress, update_success_progress}
-use Rattle.raft_steps.specs.ReplicationHandler.{send_commands, try_commit_quorum_accepted, with_entry}
-use Rattle.raft_steps.specs.ReplyRefusals.{refusals_of_entry, refusals_of_progress, refusals_of_result}
-use Rattle.raft_steps.specs.Refusals.{refusals_of_counter_led}
-use Rattle.raft_steps.proofs.Kept.{commit_by_case, either, either_option}
-use Rattle.raft_steps.proofs.KeptCommit.{row_each}
-use Rattle.raft_steps.proofs.KeptReplies.{failed_kept, send_next_kept, success_kept}
-use Rattle.raft_steps.proofs.KeptPurge.{purge_case, purge_unless_kept, purge_unless_sight}
-use Rattle.raft_steps.proofs.LawsReply.{entry_core}
-use Rattle.raft_steps.proofs.Sights.{SameSight}
-use Rattle.raft_steps.proofs.Unrefused.{neither, test_fails}
+use Rattle.proof_deeds.specs.raft_command.Replication.{number_of}
+use Rattle.proof_deeds.specs.raft_command.declared.replication.RequestId.{RequestId}
+use Rattle.proof_deeds.specs.raft_steps.Invariants.{EntryFits, IsSoundLed}
+use Rattle.proof_deeds.specs.raft_steps.LogHandler.{is_target_inflight, purge_log, try_purge_log}
+use Rattle.proof_deeds.specs.raft_steps.Parts.{Core, Led, under}
+use Rattle.proof_deeds.specs.raft_steps.Replies.{on_entry, purge_unless_inflight, send_next, update_conflicting, update_failed_progress, update_leader_clock, update_matching, update_progress, update_success_progress}
+use Rattle.proof_deeds.specs.raft_steps.ReplicationHandler.{send_commands, try_commit_quorum_accepted, with_entry}
+use Rattle.proof_deeds.specs.raft_steps.ReplyRefusals.{refusals_of_entry, refusals_of_progress, refusals_of_result}
+use Rattle.proof_deeds.specs.raft_steps.Refusals.{refusals_of_counter_led}
+use Rattle.proof_deeds.proofs.raft_steps_proofs.Kept.{commit_by_case, either, either_option}
+use Rattle.proof_deeds.proofs.raft_steps_proofs.KeptCommit.{row_each}
+use Rattle.proof_deeds.proofs.raft_steps_proofs.KeptReplies.{failed_kept, send_next_kept, success_kept}
+use Rattle.proof_deeds.proofs.raft_steps_proofs.KeptPurge.{purge_case, purge_unless_kept, purge_unless_sight}
+use Rattle.proof_deeds.proofs.raft_steps_proofs.LawsReply.{entry_core}
+use Rattle.proof_deeds.proofs.raft_steps_proofs.Sights.{SameSight}
+use Rattle.proof_deeds.proofs.raft_steps_proofs.Unrefused.{neither, test_fails}
 use Rattle.proof_progress.specs.Replication.{Answers, Handles, IsAsked, IsMatched, Rounds, answered, request_of}
 use Rattle.proof_progress.proofs.Nearing.{IsSent, IsServed, IsShipped, conflicted_falls, gap, gap_most, matched_falls, serves, shipped_falls}
 

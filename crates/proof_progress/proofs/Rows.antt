@@ -3,29 +3,29 @@
 use Rattle.std.proofs.Common.{inl, inr, false, List, [], ◌∷◌, arith, refl, subst}
 use Rattle.std.specs.Prelude.{map, ℕ, ◌≡◌}
 use Rattle.std.specs.List.{AllByRecursion}
-use Rattle.raft_state.specs.Order.{next}
-use Rattle.raft_steps.specs.Commit.{commit_by}
-use Rattle.raft_steps.specs.Engine.{elect, handle_vote_resp, initialize, lead_by_votes, take_grant}
-use Rattle.raft_steps.specs.FollowingHandler.{do_append_entries}
-use Rattle.raft_steps.specs.LeaderHandler.{leader_append_entries, proposed}
-use Rattle.raft_steps.specs.ReplicationHandler.{append_membership_led, initiate_replication, rebuild_progresses, rebuild_replication_streams, try_commit_quorum_accepted, update_local_progress}
-use Rattle.raft_steps.specs.FollowingHandler as following
-use Rattle.raft_steps.specs.FollowingHandler.{append_entries}
-use Rattle.raft_steps.specs.Requests as requests
-use Rattle.raft_steps.specs.Requests.{append_answer, follow, handle_append_entries, handle_commit_entries, handle_vote_req, vote_req_answer}
-use Rattle.raft_steps.specs.ServerStateHandler.{update_role}
-use Rattle.raft_steps.specs.SnapshotHandler.{snapshot_where_due, trigger_snapshot}
-use Rattle.raft_steps.specs.Starts.{startup}
-use Rattle.raft_steps.specs.VoteHandler.{become_following, become_leader, begin_lead, lead_anew, update_internal_server_state, update_vote}
-use Rattle.raft_steps.proofs.Example.{settings}
-use Rattle.raft_schedule.specs.declared.event.Event.{Event}
-use Rattle.raft_schedule.specs.declared.event.EventKind.TheVariants.{Change, Deliver, Init, Timeout}
-use Rattle.raft_node.specs.declared.given.Given.{Given}
-use Rattle.raft_node.specs.Events.{finish, happens, place_of, played}
-use Rattle.raft_node.specs.Net.{NodeView}
-use Rattle.raft_node.specs.Runs.{with_event, world_after}
-use Rattle.raft_node.specs.WellFormed.{IsWellFormed}
-use Rattle.raft_node.specs.Work.{worked}
+use Rattle.proof_deeds.specs.raft_state.Order.{next}
+use Rattle.proof_deeds.specs.raft_steps.Commit.{commit_by}
+use Rattle.proof_deeds.specs.raft_steps.Engine.{elect, handle_vote_resp, initialize, lead_by_votes, take_grant}
+use Rattle.proof_deeds.specs.raft_steps.FollowingHandler.{do_append_entries}
+use Rattle.proof_deeds.specs.raft_steps.LeaderHandler.{leader_append_entries, proposed}
+use Rattle.proof_deeds.specs.raft_steps.ReplicationHandler.{append_membership_led, initiate_replication, rebuild_progresses, rebuild_replication_streams, try_commit_quorum_accepted, update_local_progress}
+use Rattle.proof_deeds.specs.raft_steps.FollowingHandler as following
+use Rattle.proof_deeds.specs.raft_steps.FollowingHandler.{append_entries}
+use Rattle.proof_deeds.specs.raft_steps.Requests as requests
+use Rattle.proof_deeds.specs.raft_steps.Requests.{append_answer, follow, handle_append_entries, handle_commit_entries, handle_vote_req, vote_req_answer}
+use Rattle.proof_deeds.specs.raft_steps.ServerStateHandler.{update_role}
+use Rattle.proof_deeds.specs.raft_steps.SnapshotHandler.{snapshot_where_due, trigger_snapshot}
+use Rattle.proof_deeds.specs.raft_steps.Starts.{startup}
+use Rattle.proof_deeds.specs.raft_steps.VoteHandler.{become_following, become_leader, begin_lead, lead_anew, update_internal_server_state, update_vote}
+use Rattle.proof_deeds.proofs.raft_steps_proofs.Example.{settings}
+use Rattle.proof_deeds.specs.raft_schedule.declared.event.Event.{Event}
+use Rattle.proof_deeds.specs.raft_schedule.declared.event.EventKind.TheVariants.{Change, Deliver, Init, Timeout}
+use Rattle.proof_deeds.specs.raft_node.declared.given.Given.{Given}
+use Rattle.proof_deeds.specs.raft_node.Events.{finish, happens, place_of, played}
+use Rattle.proof_deeds.specs.raft_node.Net.{NodeView}
+use Rattle.proof_deeds.specs.raft_node.Runs.{with_event, world_after}
+use Rattle.proof_deeds.specs.raft_node.WellFormed.{IsWellFormed}
+use Rattle.proof_deeds.specs.raft_node.Work.{worked}
 use Rattle.std.proofs.lemmas.List.Elements.{All-from_recursion}
 use Rattle.std.specs.Prelude.{◌<◌, ◌^◌}
 use Rattle.proof_deeds.proofs.RunRows.{alone, event, leader, trio}

@@ -5,32 +5,32 @@ use Rattle.std.specs.Cmp.{tied_itself}
 use Rattle.std.specs.Ordering.{is_eq, is_gt, nat_cmp}
 use Rattle.std.proofs.lemmas.Bool.{and_parts, cond_both}
 use Rattle.std.proofs.lemmas.Cmp.{nat_cmp_total}
-use Rattle.raft_state.specs.declared.ids.Vote.{Vote}
-use Rattle.raft_state.specs.Log.{last}
-use Rattle.raft_state.specs.Order.{vote_cmp}
-use Rattle.raft_state.specs.Same.{nat_same}
-use Rattle.raft_state.proofs.Orders.{is_equal, vote_total}
-use Rattle.raft_progress.specs.Quorum.{is_quorum}
-use Rattle.raft_progress.specs.Table.{is_in}
-use Rattle.raft_command.specs.declared.config.EngineConfig.{EngineConfig}
-use Rattle.raft_proposer.specs.Candidate.{grant_by, into_leader, is_granted}
-use Rattle.raft_steps.specs.Engine.{handle_vote_resp, is_granted_to, lead_by_votes, may_establish, take_grant, take_rejection}
-use Rattle.raft_steps.specs.LeaderHandler.{last_proposed, leader_append_entries, proposed}
-use Rattle.raft_steps.specs.Parts.{leading, led_of, on_core, on_leader}
-use Rattle.raft_steps.specs.Refusals.{refusals_of_local_progress, refusals_of_vote_resp}
-use Rattle.raft_steps.specs.ReplicationHandler.{append_membership_led, initiate_replication, rebuild_progresses, rebuild_replication_streams}
-use Rattle.raft_steps.specs.Starts.{lead_on}
-use Rattle.raft_steps.specs.VoteHandler.{rejects_vote, take_vote, update_vote}
-use Rattle.raft_steps.proofs.Kept.{either, either_option}
-use Rattle.raft_steps.proofs.Leads.{vote_same}
-use Rattle.raft_steps.proofs.Marks.{internal_marks}
-use Rattle.raft_store.specs.declared.entry.Entry.{Entry}
-use Rattle.raft_store.specs.Entries.{entry_meaning}
-use Rattle.raft_store.specs.Types.{EngineView, WorldCandidate, WorldLeader, WorldMachine}
-use Rattle.raft_calls.specs.declared.feed.Feed.{Feed}
-use Rattle.raft_calls.specs.declared.feed.Feed.TheVariants.{Nothing, Saved, Stored}
-use Rattle.raft_calls.specs.Feeds.{WorldLed, asks_itself, called, fed, grant_own, own_grant}
-use Rattle.raft_calls.proofs.Falls.{WorldCore}
+use Rattle.proof_deeds.specs.raft_state.declared.ids.Vote.{Vote}
+use Rattle.proof_deeds.specs.raft_state.Log.{last}
+use Rattle.proof_deeds.specs.raft_state.Order.{vote_cmp}
+use Rattle.proof_deeds.specs.raft_state.Same.{nat_same}
+use Rattle.proof_deeds.proofs.raft_state_proofs.Orders.{is_equal, vote_total}
+use Rattle.proof_deeds.specs.raft_progress.Quorum.{is_quorum}
+use Rattle.proof_deeds.specs.raft_progress.Table.{is_in}
+use Rattle.proof_deeds.specs.raft_command.declared.config.EngineConfig.{EngineConfig}
+use Rattle.proof_deeds.specs.raft_proposer.Candidate.{grant_by, into_leader, is_granted}
+use Rattle.proof_deeds.specs.raft_steps.Engine.{handle_vote_resp, is_granted_to, lead_by_votes, may_establish, take_grant, take_rejection}
+use Rattle.proof_deeds.specs.raft_steps.LeaderHandler.{last_proposed, leader_append_entries, proposed}
+use Rattle.proof_deeds.specs.raft_steps.Parts.{leading, led_of, on_core, on_leader}
+use Rattle.proof_deeds.specs.raft_steps.Refusals.{refusals_of_local_progress, refusals_of_vote_resp}
+use Rattle.proof_deeds.specs.raft_steps.ReplicationHandler.{append_membership_led, initiate_replication, rebuild_progresses, rebuild_replication_streams}
+use Rattle.proof_deeds.specs.raft_steps.Starts.{lead_on}
+use Rattle.proof_deeds.specs.raft_steps.VoteHandler.{rejects_vote, take_vote, update_vote}
+use Rattle.proof_deeds.proofs.raft_steps_proofs.Kept.{either, either_option}
+use Rattle.proof_deeds.proofs.raft_steps_proofs.Leads.{vote_same}
+use Rattle.proof_deeds.proofs.raft_steps_proofs.Marks.{internal_marks}
+use Rattle.proof_deeds.specs.raft_store.declared.entry.Entry.{Entry}
+use Rattle.proof_deeds.specs.raft_store.Entries.{entry_meaning}
+use Rattle.proof_deeds.specs.raft_store.Types.{EngineView, WorldCandidate, WorldLeader, WorldMachine}
+use Rattle.proof_deeds.specs.raft_calls.declared.feed.Feed.{Feed}
+use Rattle.proof_deeds.specs.raft_calls.declared.feed.Feed.TheVariants.{Nothing, Saved, Stored}
+use Rattle.proof_deeds.specs.raft_calls.Feeds.{WorldLed, asks_itself, called, fed, grant_own, own_grant}
+use Rattle.proof_deeds.proofs.raft_calls_proofs.Falls.{WorldCore}
 use Rattle.proof_progress.proofs.KeptVotes.{local_keeps}
 
 -- the leader that a candidate becomes

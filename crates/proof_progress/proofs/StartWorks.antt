@@ -3,38 +3,38 @@ use Rattle.std.proofs.Common.{ℕ, suc, ◌≤◌, ◌≡◌, Bool, true, false,
 use Rattle.std.specs.Prelude.{◌==◌, if◌then◌else◌, nat_eq, slice_get}
 use Rattle.std.specs.Ordering.{is_eq, nat_cmp}
 use Rattle.std.proofs.lemmas.Bool.Decides.{nat_tests}
-use Rattle.raft_state.specs.declared.ids.LogId.{LogId}
-use Rattle.raft_state.specs.declared.ids.Vote.{Vote}
-use Rattle.raft_state.specs.Log.{last}
-use Rattle.raft_state.specs.Order.{next, vote_cmp}
-use Rattle.raft_state.specs.State.{is_leader, is_leading}
-use Rattle.raft_error.specs.declared.error.EngineError.{EngineError}
-use Rattle.raft_proposer.specs.Joint.{u64_max}
-use Rattle.raft_command.specs.declared.command.Command.TheVariants as command
-use Rattle.raft_command.specs.Queue.{popped}
-use Rattle.raft_steps.specs.Parts.{led_of, leading}
-use Rattle.raft_steps.specs.Refusals.{refusals_of_local_progress}
-use Rattle.raft_steps.specs.ReplicationHandler.{update_local_progress}
-use Rattle.raft_store.specs.declared.entry.Entry.{Entry}
-use Rattle.raft_store.specs.Entries.{entry_meaning}
-use Rattle.raft_store.specs.Restart.{restarted, started}
-use Rattle.raft_store.specs.Types.{EngineView, WorldCommand, WorldLeader}
-use Rattle.raft_schedule.specs.declared.event.Outcome.{Outcome}
-use Rattle.raft_schedule.specs.declared.event.Outcome.TheVariants.{Skipped}
-use Rattle.raft_schedule.specs.declared.event.SkipReason.{SkipReason}
-use Rattle.raft_node.specs.declared.act.Act.TheVariants.{Restart}
-use Rattle.raft_node.specs.declared.given.Given.{Given}
-use Rattle.raft_node.specs.declared.node.Turn.{Turn}
-use Rattle.raft_node.specs.Events.{Scene, called_at, calls, finish, happens, moment_of, outcome_of, played, scene, with_answer}
-use Rattle.raft_node.specs.Execute.{effects}
-use Rattle.raft_calls.specs.Feeds.{last_sent, called, feed, hold_own}
-use Rattle.raft_node.specs.Net.{Net, NodeView, Records, no_streams}
-use Rattle.raft_node.specs.Runs.{whole_logs}
-use Rattle.raft_node.specs.Starts.{engine_on}
-use Rattle.raft_calls.specs.Starts.{resumed}
-use Rattle.raft_node.specs.Work.{Work, step_of, weight, work_step, worked}
-use Rattle.raft_calls.specs.Engines.{with_queue}
-use Rattle.raft_node.proofs.Worked.{worked-ends, worked-keeps, worked-step}
+use Rattle.proof_deeds.specs.raft_state.declared.ids.LogId.{LogId}
+use Rattle.proof_deeds.specs.raft_state.declared.ids.Vote.{Vote}
+use Rattle.proof_deeds.specs.raft_state.Log.{last}
+use Rattle.proof_deeds.specs.raft_state.Order.{next, vote_cmp}
+use Rattle.proof_deeds.specs.raft_state.State.{is_leader, is_leading}
+use Rattle.proof_deeds.specs.raft_error.declared.error.EngineError.{EngineError}
+use Rattle.proof_deeds.specs.raft_proposer.Joint.{u64_max}
+use Rattle.proof_deeds.specs.raft_command.declared.command.Command.TheVariants as command
+use Rattle.proof_deeds.specs.raft_command.Queue.{popped}
+use Rattle.proof_deeds.specs.raft_steps.Parts.{led_of, leading}
+use Rattle.proof_deeds.specs.raft_steps.Refusals.{refusals_of_local_progress}
+use Rattle.proof_deeds.specs.raft_steps.ReplicationHandler.{update_local_progress}
+use Rattle.proof_deeds.specs.raft_store.declared.entry.Entry.{Entry}
+use Rattle.proof_deeds.specs.raft_store.Entries.{entry_meaning}
+use Rattle.proof_deeds.specs.raft_store.Restart.{restarted, started}
+use Rattle.proof_deeds.specs.raft_store.Types.{EngineView, WorldCommand, WorldLeader}
+use Rattle.proof_deeds.specs.raft_schedule.declared.event.Outcome.{Outcome}
+use Rattle.proof_deeds.specs.raft_schedule.declared.event.Outcome.TheVariants.{Skipped}
+use Rattle.proof_deeds.specs.raft_schedule.declared.event.SkipReason.{SkipReason}
+use Rattle.proof_deeds.specs.raft_node.declared.act.Act.TheVariants.{Restart}
+use Rattle.proof_deeds.specs.raft_node.declared.given.Given.{Given}
+use Rattle.proof_deeds.specs.raft_node.declared.node.Turn.{Turn}
+use Rattle.proof_deeds.specs.raft_node.Events.{Scene, called_at, calls, finish, happens, moment_of, outcome_of, played, scene, with_answer}
+use Rattle.proof_deeds.specs.raft_node.Execute.{effects}
+use Rattle.proof_deeds.specs.raft_calls.Feeds.{last_sent, called, feed, hold_own}
+use Rattle.proof_deeds.specs.raft_node.Net.{Net, NodeView, Records, no_streams}
+use Rattle.proof_deeds.specs.raft_node.Runs.{whole_logs}
+use Rattle.proof_deeds.specs.raft_node.Starts.{engine_on}
+use Rattle.proof_deeds.specs.raft_calls.Starts.{resumed}
+use Rattle.proof_deeds.specs.raft_node.Work.{Work, step_of, weight, work_step, worked}
+use Rattle.proof_deeds.specs.raft_calls.Engines.{with_queue}
+use Rattle.proof_deeds.proofs.raft_node_proofs.Worked.{worked-ends, worked-keeps, worked-step}
 use Rattle.proof_progress.specs.Choices.{engine_at_start}
 use Rattle.proof_progress.specs.Continuations.{At, LeadsIn, start_by, restart as restart_at}
 use Rattle.proof_progress.proofs.Campaigns.{at_id}
@@ -209,7 +209,7 @@ module _ (given : Given) (saved : Bool) (now : ℕ) (N : NodeView) where
       let w : WorksOn (engine_at_start given.settings saved N) (done rs) =
       works_on (engine_at_start given.settings saved N) turn (weight (at_work (engine_at_start given.settings saved N) (taken_up rs))) (at_work (engine_at_start given.settings saved N) (taken_up rs))
       (record { engine = engine_at_start given.settings saved N; runs = refl; goes = record { config = refl; state = same_state (engine_at_start given.settings saved N).machine.core.state; spent = refl; alone = s.alone }; left = refl }) in
-      let i : nat_eq (length w.engine.machine.core.output.items) 0 ≡ true = subst (λ (o : Option EngineView). Rattle.raft_node.specs.Work.is_idle o ≡ true) w.runs (worked-ends whole_logs turn (at_work (engine_at_start given.settings saved N) (taken_up rs))) in
+      let i : nat_eq (length w.engine.machine.core.output.items) 0 ≡ true = subst (λ (o : Option EngineView). Rattle.proof_deeds.specs.raft_node.Work.is_idle o ≡ true) w.runs (worked-ends whole_logs turn (at_work (engine_at_start given.settings saved N) (taken_up rs))) in
       record { moment = refl; engine = w.engine; runs = w.runs; rest = nothing_left w.engine.machine.core.output.items i; goes = w.goes }
 
   -- by a vote of its own it leads, and is recorded as established

@@ -6,11 +6,11 @@ use Rattle.std.specs.List.{AllByRecursion}
 use Rattle.std.specs.Ordering.{bool_cmp, is_eq, is_ge, nat_cmp}
 use Rattle.std.proofs.lemmas.Bool.Decides.{nat_tests}
 use Rattle.std.proofs.lemmas.List.Recursion.{is_count_by}
-use Rattle.raft_state.specs.Sorted.{has_id}
-use Rattle.raft_progress.specs.Quorum.{is_majority, is_quorum}
-use Rattle.raft_progress.specs.Table.{greater, holders, is_row_of, row_of, voter_rows, with_value}
-use Rattle.raft_proposer.specs.Candidate.{grant_by, is_granted}
-use Rattle.raft_store.specs.Types.{WorldCandidate}
+use Rattle.proof_deeds.specs.raft_state.Sorted.{has_id}
+use Rattle.proof_deeds.specs.raft_progress.Quorum.{is_majority, is_quorum}
+use Rattle.proof_deeds.specs.raft_progress.Table.{greater, holders, is_row_of, row_of, voter_rows, with_value}
+use Rattle.proof_deeds.specs.raft_proposer.Candidate.{grant_by, is_granted}
+use Rattle.proof_deeds.specs.raft_store.Types.{WorldCandidate}
 use Rattle.proof_progress.proofs.Elects.{itself}
 
 -- a row of the first k is this id's, with a value that has the property

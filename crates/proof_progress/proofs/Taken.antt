@@ -5,48 +5,48 @@ use Rattle.std.specs.List.{AllByRecursion, prefix_len}
 use Rattle.std.specs.Ordering.{is_eq, is_gt, nat_cmp}
 use Rattle.std.specs.Result.{is_ok}
 use Rattle.std.proofs.lemmas.Cmp.{nat_cmp_total}
-use Rattle.raft_state.specs.declared.ids.LogId.{LogId}
-use Rattle.raft_state.specs.declared.ids.Vote.{Vote}
-use Rattle.raft_state.specs.Log.{last}
-use Rattle.raft_state.specs.Members.{contains}
-use Rattle.raft_state.specs.Order.{last_id_cmp, vote_cmp}
-use Rattle.raft_state.specs.Same.{nat_same}
-use Rattle.raft_state.specs.State.{accept, has_log_id, is_leader, is_leading, purge}
-use Rattle.raft_state.proofs.Orders.{and_both}
-use Rattle.raft_error.specs.declared.error.EngineError.{EngineError}
-use Rattle.raft_error.specs.Number.{number_of}
-use Rattle.raft_command.specs.declared.command.Command.TheVariants.{AppendInputEntries, PurgeLog, Respond, SaveVote}
-use Rattle.raft_command.specs.declared.command.Condition.{Condition}
-use Rattle.raft_command.specs.declared.config.EngineConfig.{EngineConfig}
-use Rattle.raft_command.specs.declared.respond.Respond.TheVariants as respond
-use Rattle.raft_command.specs.declared.sm.CommandPayload.TheVariants.{InstallFullSnapshot}
-use Rattle.raft_command.specs.Message.{append_response}
-use Rattle.raft_command.specs.Push.{ordered, with_command}
-use Rattle.raft_steps.specs.FollowingHandler.{commit_entries, commit_target, do_append_entries, ensure_log_consecutive, holds_previous, is_held, memberships_in, new_entries, truncate_for, with_entries}
-use Rattle.raft_steps.specs.FollowingHandler as following
-use Rattle.raft_steps.specs.InstallLaws.{installing}
-use Rattle.raft_steps.specs.InstallRefusals.{refusals_of_fit, refusals_of_install}
-use Rattle.raft_steps.specs.Installs.{handle_install_full_snapshot, has_other_at, held_upto, install_and_reply, install_full_snapshot, install_upto, installs, replaces_log, reply_install, truncate_contradicted, with_memberships_of}
-use Rattle.raft_steps.specs.Laws.{QueuesOnly, later}
-use Rattle.raft_steps.specs.LogHandler.{purge_log, update_purge_upto}
-use Rattle.raft_steps.specs.Parts.{on_core, then_command, with_state}
-use Rattle.raft_steps.specs.RequestRefusals.{refusals_of_append, refusals_of_commit, refusals_of_follow}
-use Rattle.raft_steps.specs.Requests.{append_answer, append_entries, follow, handle_append_entries, handle_commit_entries}
-use Rattle.raft_steps.specs.ServerStateHandler.{update_role}
-use Rattle.raft_steps.specs.VoteHandler.{become_following, become_leader, rejects_vote, update_internal_server_state, update_vote}
-use Rattle.raft_steps.proofs.Allowed.{AllowsLeading, commit_by_only, following_only, only_here, only_of, only_then, role_only, truncate_only}
-use Rattle.raft_steps.proofs.Kept.{either, either_option}
-use Rattle.raft_steps.proofs.KeptFollow.{heard_case, not_own}
-use Rattle.raft_steps.proofs.Leads.{no_order, vote_same}
-use Rattle.raft_store.specs.declared.entry.Entry.{Entry}
-use Rattle.raft_store.specs.Entries.{entry_meaning}
-use Rattle.raft_store.specs.Types.{EngineView, WorldCandidate, WorldLeader, WorldMachine, WorldSnapshot}
-use Rattle.raft_calls.specs.declared.feed.Feed.{Feed}
-use Rattle.raft_calls.specs.declared.feed.Feed.TheVariants.{Nothing, Saved, Stored}
-use Rattle.raft_calls.specs.Deliveries.{answered, appended, reply_token, take_append, take_commit, with_machine}
-use Rattle.raft_calls.specs.Engines.{WorldRespond}
-use Rattle.raft_calls.specs.Feeds.{asks_itself, fed, grant_own, hold_own}
-use Rattle.raft_calls.proofs.Falls.{WorldCore}
+use Rattle.proof_deeds.specs.raft_state.declared.ids.LogId.{LogId}
+use Rattle.proof_deeds.specs.raft_state.declared.ids.Vote.{Vote}
+use Rattle.proof_deeds.specs.raft_state.Log.{last}
+use Rattle.proof_deeds.specs.raft_state.Members.{contains}
+use Rattle.proof_deeds.specs.raft_state.Order.{last_id_cmp, vote_cmp}
+use Rattle.proof_deeds.specs.raft_state.Same.{nat_same}
+use Rattle.proof_deeds.specs.raft_state.State.{accept, has_log_id, is_leader, is_leading, purge}
+use Rattle.proof_deeds.proofs.raft_state_proofs.Orders.{and_both}
+use Rattle.proof_deeds.specs.raft_error.declared.error.EngineError.{EngineError}
+use Rattle.proof_deeds.specs.raft_error.Number.{number_of}
+use Rattle.proof_deeds.specs.raft_command.declared.command.Command.TheVariants.{AppendInputEntries, PurgeLog, Respond, SaveVote}
+use Rattle.proof_deeds.specs.raft_command.declared.command.Condition.{Condition}
+use Rattle.proof_deeds.specs.raft_command.declared.config.EngineConfig.{EngineConfig}
+use Rattle.proof_deeds.specs.raft_command.declared.respond.Respond.TheVariants as respond
+use Rattle.proof_deeds.specs.raft_command.declared.sm.CommandPayload.TheVariants.{InstallFullSnapshot}
+use Rattle.proof_deeds.specs.raft_command.Message.{append_response}
+use Rattle.proof_deeds.specs.raft_command.Push.{ordered, with_command}
+use Rattle.proof_deeds.specs.raft_steps.FollowingHandler.{commit_entries, commit_target, do_append_entries, ensure_log_consecutive, holds_previous, is_held, memberships_in, new_entries, truncate_for, with_entries}
+use Rattle.proof_deeds.specs.raft_steps.FollowingHandler as following
+use Rattle.proof_deeds.specs.raft_steps.InstallLaws.{installing}
+use Rattle.proof_deeds.specs.raft_steps.InstallRefusals.{refusals_of_fit, refusals_of_install}
+use Rattle.proof_deeds.specs.raft_steps.Installs.{handle_install_full_snapshot, has_other_at, held_upto, install_and_reply, install_full_snapshot, install_upto, installs, replaces_log, reply_install, truncate_contradicted, with_memberships_of}
+use Rattle.proof_deeds.specs.raft_steps.Laws.{QueuesOnly, later}
+use Rattle.proof_deeds.specs.raft_steps.LogHandler.{purge_log, update_purge_upto}
+use Rattle.proof_deeds.specs.raft_steps.Parts.{on_core, then_command, with_state}
+use Rattle.proof_deeds.specs.raft_steps.RequestRefusals.{refusals_of_append, refusals_of_commit, refusals_of_follow}
+use Rattle.proof_deeds.specs.raft_steps.Requests.{append_answer, append_entries, follow, handle_append_entries, handle_commit_entries}
+use Rattle.proof_deeds.specs.raft_steps.ServerStateHandler.{update_role}
+use Rattle.proof_deeds.specs.raft_steps.VoteHandler.{become_following, become_leader, rejects_vote, update_internal_server_state, update_vote}
+use Rattle.proof_deeds.proofs.raft_steps_proofs.Allowed.{AllowsLeading, commit_by_only, following_only, only_here, only_of, only_then, role_only, truncate_only}
+use Rattle.proof_deeds.proofs.raft_steps_proofs.Kept.{either, either_option}
+use Rattle.proof_deeds.proofs.raft_steps_proofs.KeptFollow.{heard_case, not_own}
+use Rattle.proof_deeds.proofs.raft_steps_proofs.Leads.{no_order, vote_same}
+use Rattle.proof_deeds.specs.raft_store.declared.entry.Entry.{Entry}
+use Rattle.proof_deeds.specs.raft_store.Entries.{entry_meaning}
+use Rattle.proof_deeds.specs.raft_store.Types.{EngineView, WorldCandidate, WorldLeader, WorldMachine, WorldSnapshot}
+use Rattle.proof_deeds.specs.raft_calls.declared.feed.Feed.{Feed}
+use Rattle.proof_deeds.specs.raft_calls.declared.feed.Feed.TheVariants.{Nothing, Saved, Stored}
+use Rattle.proof_deeds.specs.raft_calls.Deliveries.{answered, appended, reply_token, take_append, take_commit, with_machine}
+use Rattle.proof_deeds.specs.raft_calls.Engines.{WorldRespond}
+use Rattle.proof_deeds.specs.raft_calls.Feeds.{asks_itself, fed, grant_own, hold_own}
+use Rattle.proof_deeds.proofs.raft_calls_proofs.Falls.{WorldCore}
 use Rattle.proof_deeds.proofs.Stored.{each_drop}
 use Rattle.proof_progress.proofs.EntriesQueued.{Brings}
 use Rattle.proof_progress.proofs.OwnCalled.{Answer, engine_in}

@@ -3,46 +3,46 @@ use Rattle.std.proofs.Common.{ℕ, ◌+◌, ◌-◌, ◌≤◌, ◌≡◌, Bool,
 use Rattle.std.specs.Prelude.{◌==◌, drop, fold, if◌then◌else◌}
 use Rattle.std.specs.Ordering.{is_eq, is_gt, is_le, nat_cmp}
 use Rattle.std.proofs.lemmas.List.{append-nil}
-use Rattle.raft_state.specs.declared.ids.LogId.{LogId}
-use Rattle.raft_state.specs.declared.ids.Vote.{Vote}
-use Rattle.raft_state.specs.declared.membership.StoredMembership.{StoredMembership}
-use Rattle.raft_state.specs.declared.policy.RejectAppendEntries.{RejectAppendEntries}
-use Rattle.raft_state.specs.declared.policy.RejectAppendEntries.TheVariants as reject
-use Rattle.raft_state.specs.declared.state.RaftState.{RaftState}
-use Rattle.raft_state.specs.declared.state.ServerState.{ServerState}
-use Rattle.raft_state.specs.Log.{at, last}
-use Rattle.raft_state.specs.Members.{contains}
-use Rattle.raft_state.specs.Order.{last_id_cmp, vote_cmp}
-use Rattle.raft_state.specs.Policy.{should_snapshot}
-use Rattle.raft_state.specs.Same.{nat_same}
-use Rattle.raft_state.specs.State.{accept, accepted, accepted_under, append_membership, commit, commits, extend, has_log_id, truncate, undoes_membership}
-use Rattle.raft_command.specs.declared.command.Command.TheVariants.{Commit, DeleteConflictLog, Respond, SaveVote, StateMachine}
-use Rattle.raft_command.specs.declared.config.EngineConfig.{EngineConfig}
-use Rattle.raft_command.specs.declared.message.AppendEntriesResponse.{AppendEntriesResponse}
-use Rattle.raft_command.specs.declared.message.AppendEntriesResponse.TheVariants.{Conflict}
-use Rattle.raft_command.specs.declared.respond.Respond.TheVariants as respond
-use Rattle.raft_command.specs.declared.sm.CommandPayload.TheVariants.{BuildSnapshot}
-use Rattle.raft_command.specs.Message.{append_response}
-use Rattle.raft_command.specs.Push.{committed_upto, with_command}
-use Rattle.raft_command.specs.Queue.{Queue, queued}
-use Rattle.raft_steps.specs.Commit.{commit_by}
-use Rattle.raft_steps.specs.FollowingHandler.{commit_entries, commit_target, consecutive_answer, do_append_entries, ensure_log_consecutive, holds_previous, memberships_in, new_entries, truncate_for, truncate_logs, with_entries}
-use Rattle.raft_steps.specs.FollowingHandler as following
-use Rattle.raft_steps.specs.Laws.{QueuesOnly, later}
-use Rattle.raft_steps.specs.Parts.{Core, on_core, then_command, with_state}
-use Rattle.raft_steps.specs.Requests.{append_answer, append_entries, follow, handle_append_entries, handle_commit_entries, replied}
-use Rattle.raft_steps.specs.ServerStateHandler.{update_role}
-use Rattle.raft_steps.specs.SnapshotHandler.{snapshot_where_due, trigger_snapshot}
-use Rattle.raft_steps.specs.VoteHandler.{become_following, become_leader, rejects_vote, update_internal_server_state, update_vote}
-use Rattle.raft_steps.proofs.Allowed.{only_here, only_of, only_then}
-use Rattle.raft_steps.proofs.Kept.{either, either_option}
-use Rattle.raft_steps.proofs.Leads.{no_order, vote_same}
-use Rattle.raft_steps.proofs.Marks.{follow_marks}
-use Rattle.raft_store.specs.declared.config.WorldConfig.{WorldConfig}
-use Rattle.raft_store.specs.declared.entry.Entry.{Entry}
-use Rattle.raft_store.specs.Entries.{entry_meaning}
-use Rattle.raft_store.specs.Types.{WorldCommand, WorldMachine}
-use Rattle.raft_calls.specs.Deliveries.{reply_token}
+use Rattle.proof_deeds.specs.raft_state.declared.ids.LogId.{LogId}
+use Rattle.proof_deeds.specs.raft_state.declared.ids.Vote.{Vote}
+use Rattle.proof_deeds.specs.raft_state.declared.membership.StoredMembership.{StoredMembership}
+use Rattle.proof_deeds.specs.raft_state.declared.policy.RejectAppendEntries.{RejectAppendEntries}
+use Rattle.proof_deeds.specs.raft_state.declared.policy.RejectAppendEntries.TheVariants as reject
+use Rattle.proof_deeds.specs.raft_state.declared.state.RaftState.{RaftState}
+use Rattle.proof_deeds.specs.raft_state.declared.state.ServerState.{ServerState}
+use Rattle.proof_deeds.specs.raft_state.Log.{at, last}
+use Rattle.proof_deeds.specs.raft_state.Members.{contains}
+use Rattle.proof_deeds.specs.raft_state.Order.{last_id_cmp, vote_cmp}
+use Rattle.proof_deeds.specs.raft_state.Policy.{should_snapshot}
+use Rattle.proof_deeds.specs.raft_state.Same.{nat_same}
+use Rattle.proof_deeds.specs.raft_state.State.{accept, accepted, accepted_under, append_membership, commit, commits, extend, has_log_id, truncate, undoes_membership}
+use Rattle.proof_deeds.specs.raft_command.declared.command.Command.TheVariants.{Commit, DeleteConflictLog, Respond, SaveVote, StateMachine}
+use Rattle.proof_deeds.specs.raft_command.declared.config.EngineConfig.{EngineConfig}
+use Rattle.proof_deeds.specs.raft_command.declared.message.AppendEntriesResponse.{AppendEntriesResponse}
+use Rattle.proof_deeds.specs.raft_command.declared.message.AppendEntriesResponse.TheVariants.{Conflict}
+use Rattle.proof_deeds.specs.raft_command.declared.respond.Respond.TheVariants as respond
+use Rattle.proof_deeds.specs.raft_command.declared.sm.CommandPayload.TheVariants.{BuildSnapshot}
+use Rattle.proof_deeds.specs.raft_command.Message.{append_response}
+use Rattle.proof_deeds.specs.raft_command.Push.{committed_upto, with_command}
+use Rattle.proof_deeds.specs.raft_command.Queue.{Queue, queued}
+use Rattle.proof_deeds.specs.raft_steps.Commit.{commit_by}
+use Rattle.proof_deeds.specs.raft_steps.FollowingHandler.{commit_entries, commit_target, consecutive_answer, do_append_entries, ensure_log_consecutive, holds_previous, memberships_in, new_entries, truncate_for, truncate_logs, with_entries}
+use Rattle.proof_deeds.specs.raft_steps.FollowingHandler as following
+use Rattle.proof_deeds.specs.raft_steps.Laws.{QueuesOnly, later}
+use Rattle.proof_deeds.specs.raft_steps.Parts.{Core, on_core, then_command, with_state}
+use Rattle.proof_deeds.specs.raft_steps.Requests.{append_answer, append_entries, follow, handle_append_entries, handle_commit_entries, replied}
+use Rattle.proof_deeds.specs.raft_steps.ServerStateHandler.{update_role}
+use Rattle.proof_deeds.specs.raft_steps.SnapshotHandler.{snapshot_where_due, trigger_snapshot}
+use Rattle.proof_deeds.specs.raft_steps.VoteHandler.{become_following, become_leader, rejects_vote, update_internal_server_state, update_vote}
+use Rattle.proof_deeds.proofs.raft_steps_proofs.Allowed.{only_here, only_of, only_then}
+use Rattle.proof_deeds.proofs.raft_steps_proofs.Kept.{either, either_option}
+use Rattle.proof_deeds.proofs.raft_steps_proofs.Leads.{no_order, vote_same}
+use Rattle.proof_deeds.proofs.raft_steps_proofs.Marks.{follow_marks}
+use Rattle.proof_deeds.specs.raft_store.declared.config.WorldConfig.{WorldConfig}
+use Rattle.proof_deeds.specs.raft_store.declared.entry.Entry.{Entry}
+use Rattle.proof_deeds.specs.raft_store.Entries.{entry_meaning}
+use Rattle.proof_deeds.specs.raft_store.Types.{WorldCommand, WorldMachine}
+use Rattle.proof_deeds.specs.raft_calls.Deliveries.{reply_token}
 
 abbrev pub WorldCore : Type 0
 WorldCore = Core WorldConfig ℕ (Unit {0}) Entry ℕ ℕ (List Entry)

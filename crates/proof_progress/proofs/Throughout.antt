@@ -3,28 +3,28 @@ use Rattle.std.proofs.Common.{ℕ, ◌<◌, ◌≡◌, ◌-◌, append-nil, appe
 use Rattle.std.specs.Prelude.{Contains, map, slice_get, slice_set}
 use Rattle.std.specs.List.{AllByRecursion}
 use Rattle.std.proofs.lemmas.List.Elements.{All-contains_itself, recursion_from_All}
-use Rattle.raft_state.proofs.LogLists.{each_append}
-use Rattle.raft_store.specs.declared.entry.Entry.{Entry}
-use Rattle.raft_store.specs.Store.{no_store}
-use Rattle.raft_store.specs.Types.{EngineView, WorldStore}
-use Rattle.raft_schedule.specs.declared.event.Event.{Event}
-use Rattle.raft_schedule.specs.declared.event.Outcome.{Outcome}
-use Rattle.raft_schedule.specs.declared.event.Outcome.TheVariants.{Skipped}
-use Rattle.raft_schedule.specs.declared.event.SkipReason.{SkipReason}
-use Rattle.raft_schedule.specs.declared.event.SkipReason.TheVariants.{NoMessage, NotRunning}
-use Rattle.raft_calls.specs.declared.lead.Answer.{Answer}
-use Rattle.raft_calls.specs.Starts.{new_engine}
-use Rattle.raft_node.specs.declared.act.Act.{Act}
-use Rattle.raft_node.specs.declared.act.Aim.{Aim}
-use Rattle.raft_node.specs.declared.given.Given.{Given}
-use Rattle.raft_node.specs.declared.node.Turn.{Turn}
-use Rattle.raft_node.specs.Events.{Scene, aim_of, answer_at, at_node, called_at, calls, calls_at, finish, happens, moment_of, place_of, played, skip_reason, turn_of, with_answer, work_of}
-use Rattle.raft_node.specs.Net.{Net, NodeView, Records, new_node}
-use Rattle.raft_node.specs.Runs.{whole_logs, world_after}
-use Rattle.raft_node.specs.WellFormed.{IsWellFormed}
-use Rattle.raft_node.specs.Work.{Work, weight, work_step, worked}
-use Rattle.raft_node.proofs.Ready.{net_after, scene_after, skip_moved}
-use Rattle.raft_node.proofs.Worked.{worked-keeps}
+use Rattle.proof_deeds.proofs.raft_state_proofs.LogLists.{each_append}
+use Rattle.proof_deeds.specs.raft_store.declared.entry.Entry.{Entry}
+use Rattle.proof_deeds.specs.raft_store.Store.{no_store}
+use Rattle.proof_deeds.specs.raft_store.Types.{EngineView, WorldStore}
+use Rattle.proof_deeds.specs.raft_schedule.declared.event.Event.{Event}
+use Rattle.proof_deeds.specs.raft_schedule.declared.event.Outcome.{Outcome}
+use Rattle.proof_deeds.specs.raft_schedule.declared.event.Outcome.TheVariants.{Skipped}
+use Rattle.proof_deeds.specs.raft_schedule.declared.event.SkipReason.{SkipReason}
+use Rattle.proof_deeds.specs.raft_schedule.declared.event.SkipReason.TheVariants.{NoMessage, NotRunning}
+use Rattle.proof_deeds.specs.raft_calls.declared.lead.Answer.{Answer}
+use Rattle.proof_deeds.specs.raft_calls.Starts.{new_engine}
+use Rattle.proof_deeds.specs.raft_node.declared.act.Act.{Act}
+use Rattle.proof_deeds.specs.raft_node.declared.act.Aim.{Aim}
+use Rattle.proof_deeds.specs.raft_node.declared.given.Given.{Given}
+use Rattle.proof_deeds.specs.raft_node.declared.node.Turn.{Turn}
+use Rattle.proof_deeds.specs.raft_node.Events.{Scene, aim_of, answer_at, at_node, called_at, calls, calls_at, finish, happens, moment_of, place_of, played, skip_reason, turn_of, with_answer, work_of}
+use Rattle.proof_deeds.specs.raft_node.Net.{Net, NodeView, Records, new_node}
+use Rattle.proof_deeds.specs.raft_node.Runs.{whole_logs, world_after}
+use Rattle.proof_deeds.specs.raft_node.WellFormed.{IsWellFormed}
+use Rattle.proof_deeds.specs.raft_node.Work.{Work, weight, work_step, worked}
+use Rattle.proof_deeds.proofs.raft_node_proofs.Ready.{net_after, scene_after, skip_moved}
+use Rattle.proof_deeds.proofs.raft_node_proofs.Worked.{worked-keeps}
 use Rattle.proof_deeds.specs.Chains.{Reached}
 use Rattle.proof_deeds.specs.Images.{Ideal, setup_of}
 use Rattle.proof_deeds.specs.Nets.{NodeFollows}

@@ -4,19 +4,19 @@ use Rattle.std.proofs.Common.{ℕ, ◌+◌, ◌<◌, ◌≤◌, ◌≡◌, arith
 use Rattle.std.proofs.lemmas.Bool.{cases_lt}
 use Rattle.std.proofs.lemmas.List.{append_cancel_left}
 use Rattle.std.specs.List.{AllByRecursion}
-use Rattle.raft_store.specs.declared.entry.Entry.{Entry}
-use Rattle.raft_store.specs.Store.{whole}
-use Rattle.raft_schedule.specs.declared.event.Event.{Event}
-use Rattle.raft_calls.specs.declared.message.Body.{Body}
-use Rattle.raft_calls.specs.declared.message.Body.TheVariants as body
-use Rattle.raft_calls.specs.declared.message.Message.{Message}
-use Rattle.raft_node.specs.declared.given.Given.{Given}
-use Rattle.raft_node.specs.Events.{happens}
-use Rattle.raft_node.specs.Net.{NodeView}
-use Rattle.raft_node.specs.Runs.{whole_logs, world_after}
-use Rattle.raft_node.specs.WellFormed.{IsWellFormed}
-use Rattle.raft_node.specs.Work.{weight}
-use Rattle.proof_agreement.specs.Stores as stores
+use Rattle.proof_deeds.specs.raft_store.declared.entry.Entry.{Entry}
+use Rattle.proof_deeds.specs.raft_store.Store.{whole}
+use Rattle.proof_deeds.specs.raft_schedule.declared.event.Event.{Event}
+use Rattle.proof_deeds.specs.raft_calls.declared.message.Body.{Body}
+use Rattle.proof_deeds.specs.raft_calls.declared.message.Body.TheVariants as body
+use Rattle.proof_deeds.specs.raft_calls.declared.message.Message.{Message}
+use Rattle.proof_deeds.specs.raft_node.declared.given.Given.{Given}
+use Rattle.proof_deeds.specs.raft_node.Events.{happens}
+use Rattle.proof_deeds.specs.raft_node.Net.{NodeView}
+use Rattle.proof_deeds.specs.raft_node.Runs.{whole_logs, world_after}
+use Rattle.proof_deeds.specs.raft_node.WellFormed.{IsWellFormed}
+use Rattle.proof_deeds.specs.raft_node.Work.{weight}
+use Rattle.proof_deeds.specs.proof_agreement.Stores as stores
 use Rattle.proof_deeds.specs.Images.{number, setup_of}
 use Rattle.proof_deeds.specs.Nets.{NodeFollows}
 use Rattle.proof_deeds.proofs.AllLaws.{all_laws}

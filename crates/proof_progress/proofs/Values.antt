@@ -9,31 +9,31 @@ use Rattle.std.specs.Ordering.{match_ordering, nat_cmp}
 use Rattle.std.proofs.lemmas.Bool.Decides.{nat_tests}
 use Rattle.std.proofs.lemmas.Cmp.{nat_cmp_total}
 use Rattle.std.proofs.lemmas.List.{length-map}
-use Rattle.raft_state.specs.declared.ids.LeaderId.{LeaderId}
-use Rattle.raft_state.specs.declared.ids.LogId.{LogId}
-use Rattle.raft_state.specs.Log.{last}
-use Rattle.raft_state.specs.LogLaws.{IsRun}
-use Rattle.raft_state.specs.Order.{next}
-use Rattle.raft_state.proofs.Orders.{within_next}
-use Rattle.raft_proposer.specs.Leader.{numbered}
-use Rattle.raft_store.specs.declared.entry.Entry.{Entry}
-use Rattle.raft_store.specs.declared.entry.Payload.TheVariants as payload
-use Rattle.raft_store.specs.declared.entry.Value.{Value}
-use Rattle.raft_store.specs.Entries.{entry_meaning}
-use Rattle.raft_store.specs.Mirror.{Mirrors, keyed}
-use Rattle.raft_store.specs.Store.{past as past_of, put, whole}
-use Rattle.raft_store.specs.Types.{WorldStore}
-use Rattle.raft_store.proofs.Lists.{next_last_0}
-use Rattle.raft_store.proofs.Numbered.{run_at}
-use Rattle.proof_mirror.specs.Ready.{Shaped}
-use Rattle.proof_mirror.proofs.Shape.{behind_run, front_end, run_of_ids}
-use Rattle.raft_schedule.specs.declared.event.Event.{Event}
-use Rattle.raft_calls.specs.LeaderCalls.{value_entry}
-use Rattle.raft_node.specs.declared.given.Given.{Given}
-use Rattle.raft_node.specs.Net.{NodeView}
-use Rattle.raft_node.specs.Runs.{world_after}
-use Rattle.raft_node.specs.Safety.{AppliedAgree}
-use Rattle.raft_node.specs.WellFormed.{IsWellFormed}
+use Rattle.proof_deeds.specs.raft_state.declared.ids.LeaderId.{LeaderId}
+use Rattle.proof_deeds.specs.raft_state.declared.ids.LogId.{LogId}
+use Rattle.proof_deeds.specs.raft_state.Log.{last}
+use Rattle.proof_deeds.specs.raft_state.LogLaws.{IsRun}
+use Rattle.proof_deeds.specs.raft_state.Order.{next}
+use Rattle.proof_deeds.proofs.raft_state_proofs.Orders.{within_next}
+use Rattle.proof_deeds.specs.raft_proposer.Leader.{numbered}
+use Rattle.proof_deeds.specs.raft_store.declared.entry.Entry.{Entry}
+use Rattle.proof_deeds.specs.raft_store.declared.entry.Payload.TheVariants as payload
+use Rattle.proof_deeds.specs.raft_store.declared.entry.Value.{Value}
+use Rattle.proof_deeds.specs.raft_store.Entries.{entry_meaning}
+use Rattle.proof_deeds.specs.raft_store.Mirror.{Mirrors, keyed}
+use Rattle.proof_deeds.specs.raft_store.Store.{past as past_of, put, whole}
+use Rattle.proof_deeds.specs.raft_store.Types.{WorldStore}
+use Rattle.proof_deeds.proofs.raft_store_proofs.Lists.{next_last_0}
+use Rattle.proof_deeds.proofs.raft_store_proofs.Numbered.{run_at}
+use Rattle.proof_deeds.specs.proof_mirror.Ready.{Shaped}
+use Rattle.proof_deeds.proofs.proof_mirror_proofs.Shape.{behind_run, front_end, run_of_ids}
+use Rattle.proof_deeds.specs.raft_schedule.declared.event.Event.{Event}
+use Rattle.proof_deeds.specs.raft_calls.LeaderCalls.{value_entry}
+use Rattle.proof_deeds.specs.raft_node.declared.given.Given.{Given}
+use Rattle.proof_deeds.specs.raft_node.Net.{NodeView}
+use Rattle.proof_deeds.specs.raft_node.Runs.{world_after}
+use Rattle.proof_deeds.specs.raft_node.Safety.{AppliedAgree}
+use Rattle.proof_deeds.specs.raft_node.WellFormed.{IsWellFormed}
 use Rattle.proof_deeds.specs.Images.{setup_of}
 use Rattle.proof_deeds.proofs.AppendFitting.{Settled}
 use Rattle.proof_deeds.proofs.Moments.{Stood, stood_of}

@@ -9,49 +9,49 @@ use Rattle.std.specs.Ordering.{is_eq, is_gt, is_lt, nat_cmp, ordering_then}
 use Rattle.std.proofs.lemmas.Bool.Decides.{nat_tests}
 use Rattle.std.proofs.lemmas.Bool.{and_parts}
 use Rattle.std.proofs.lemmas.Cmp.{nat_cmp_total}
-use Rattle.raft_state.specs.declared.ids.LeaderId.{LeaderId}
-use Rattle.raft_state.specs.declared.ids.Vote.{Vote}
-use Rattle.raft_state.specs.declared.membership.StoredMembership.{StoredMembership}
-use Rattle.raft_state.specs.Log.{last}
-use Rattle.raft_state.specs.Members.{voter_ids}
-use Rattle.raft_state.specs.Order.{last_id_cmp, leader_id_cmp, vote_cmp}
-use Rattle.raft_state.specs.Same.{nat_same}
-use Rattle.raft_state.specs.State.{by_last_leader, is_leader, is_leading}
-use Rattle.raft_state.proofs.LogLists.{each_append}
-use Rattle.raft_state.proofs.Orders.{is_equal, le_refl, lt_not_ge, vote_total}
-use Rattle.raft_command.specs.declared.command.Command.TheVariants as command
-use Rattle.raft_command.specs.declared.config.EngineConfig.{EngineConfig}
-use Rattle.raft_command.specs.declared.replication.ReplicationResult.{ReplicationResult}
-use Rattle.raft_command.specs.declared.replication.RequestId.{RequestId}
-use Rattle.raft_command.specs.declared.sm.CommandPayload.TheVariants as payload
-use Rattle.raft_proposer.specs.Candidate.{into_leader}
-use Rattle.raft_proposer.specs.Leader.{assigned, leader_in}
-use Rattle.raft_steps.specs.Engine.{lead_by_votes, may_establish}
-use Rattle.raft_steps.specs.FollowingHandler.{memberships_in}
-use Rattle.raft_steps.specs.Laws.{Queues, QueuesOnly, RiseTo, saved_vote}
-use Rattle.raft_steps.specs.LeaderHandler.{joined, last_proposed, leader_append_entries, proposed}
-use Rattle.raft_steps.specs.Parts.{leading, on_core, on_leader, then_command, with_state}
-use Rattle.raft_steps.specs.ReplicationHandler.{append_membership_led, initiate_replication, rebuild_replication_streams, update_local_progress}
-use Rattle.raft_steps.specs.Replies.{purge_unless_inflight, take_reply, update_progress}
-use Rattle.raft_steps.specs.ServerStateHandler.{update_role}
-use Rattle.raft_steps.specs.Starts.{is_settled, lead_on, leader_step_down, startup}
-use Rattle.raft_steps.specs.VoteHandler.{become_following, become_leader, begin_lead, lead_anew, rejects_vote, take_vote, update_internal_server_state, update_vote}
-use Rattle.raft_steps.proofs.Allowed.{AllowsLeading, both_behind, initiate_only, join_only, local_only, only_here, only_of, only_then, rebuild_only, role_only}
-use Rattle.raft_steps.proofs.Kept.{either, either_option}
-use Rattle.raft_steps.proofs.LawsPurge.{reply_only, sends_only}
-use Rattle.raft_steps.proofs.LawsQueue.{append_none, internal_queues, queues_then, saved_where_grown}
-use Rattle.raft_steps.proofs.Leads.{vote_same}
-use Rattle.raft_steps.proofs.Marks.{internal_marks}
-use Rattle.raft_store.specs.declared.entry.Entry.{Entry}
-use Rattle.raft_store.specs.Built.{last_membership}
-use Rattle.raft_store.specs.Entries.{entry_meaning}
-use Rattle.raft_store.specs.Store.{past, whole}
-use Rattle.raft_store.specs.Store as store
-use Rattle.raft_store.specs.Types.{WorldCandidate, WorldCommand, WorldLeader, WorldMachine, WorldPayload, WorldStore}
-use Rattle.raft_calls.specs.Feeds.{WorldLed}
-use Rattle.raft_calls.proofs.Falls.{WorldCore}
-use Rattle.raft_calls.proofs.Stored.{IsPlainPayload}
-use Rattle.proof_mirror.specs.Ready.{FitsBefore, Ready}
+use Rattle.proof_deeds.specs.raft_state.declared.ids.LeaderId.{LeaderId}
+use Rattle.proof_deeds.specs.raft_state.declared.ids.Vote.{Vote}
+use Rattle.proof_deeds.specs.raft_state.declared.membership.StoredMembership.{StoredMembership}
+use Rattle.proof_deeds.specs.raft_state.Log.{last}
+use Rattle.proof_deeds.specs.raft_state.Members.{voter_ids}
+use Rattle.proof_deeds.specs.raft_state.Order.{last_id_cmp, leader_id_cmp, vote_cmp}
+use Rattle.proof_deeds.specs.raft_state.Same.{nat_same}
+use Rattle.proof_deeds.specs.raft_state.State.{by_last_leader, is_leader, is_leading}
+use Rattle.proof_deeds.proofs.raft_state_proofs.LogLists.{each_append}
+use Rattle.proof_deeds.proofs.raft_state_proofs.Orders.{is_equal, le_refl, lt_not_ge, vote_total}
+use Rattle.proof_deeds.specs.raft_command.declared.command.Command.TheVariants as command
+use Rattle.proof_deeds.specs.raft_command.declared.config.EngineConfig.{EngineConfig}
+use Rattle.proof_deeds.specs.raft_command.declared.replication.ReplicationResult.{ReplicationResult}
+use Rattle.proof_deeds.specs.raft_command.declared.replication.RequestId.{RequestId}
+use Rattle.proof_deeds.specs.raft_command.declared.sm.CommandPayload.TheVariants as payload
+use Rattle.proof_deeds.specs.raft_proposer.Candidate.{into_leader}
+use Rattle.proof_deeds.specs.raft_proposer.Leader.{assigned, leader_in}
+use Rattle.proof_deeds.specs.raft_steps.Engine.{lead_by_votes, may_establish}
+use Rattle.proof_deeds.specs.raft_steps.FollowingHandler.{memberships_in}
+use Rattle.proof_deeds.specs.raft_steps.Laws.{Queues, QueuesOnly, RiseTo, saved_vote}
+use Rattle.proof_deeds.specs.raft_steps.LeaderHandler.{joined, last_proposed, leader_append_entries, proposed}
+use Rattle.proof_deeds.specs.raft_steps.Parts.{leading, on_core, on_leader, then_command, with_state}
+use Rattle.proof_deeds.specs.raft_steps.ReplicationHandler.{append_membership_led, initiate_replication, rebuild_replication_streams, update_local_progress}
+use Rattle.proof_deeds.specs.raft_steps.Replies.{purge_unless_inflight, take_reply, update_progress}
+use Rattle.proof_deeds.specs.raft_steps.ServerStateHandler.{update_role}
+use Rattle.proof_deeds.specs.raft_steps.Starts.{is_settled, lead_on, leader_step_down, startup}
+use Rattle.proof_deeds.specs.raft_steps.VoteHandler.{become_following, become_leader, begin_lead, lead_anew, rejects_vote, take_vote, update_internal_server_state, update_vote}
+use Rattle.proof_deeds.proofs.raft_steps_proofs.Allowed.{AllowsLeading, both_behind, initiate_only, join_only, local_only, only_here, only_of, only_then, rebuild_only, role_only}
+use Rattle.proof_deeds.proofs.raft_steps_proofs.Kept.{either, either_option}
+use Rattle.proof_deeds.proofs.raft_steps_proofs.LawsPurge.{reply_only, sends_only}
+use Rattle.proof_deeds.proofs.raft_steps_proofs.LawsQueue.{append_none, internal_queues, queues_then, saved_where_grown}
+use Rattle.proof_deeds.proofs.raft_steps_proofs.Leads.{vote_same}
+use Rattle.proof_deeds.proofs.raft_steps_proofs.Marks.{internal_marks}
+use Rattle.proof_deeds.specs.raft_store.declared.entry.Entry.{Entry}
+use Rattle.proof_deeds.specs.raft_store.Built.{last_membership}
+use Rattle.proof_deeds.specs.raft_store.Entries.{entry_meaning}
+use Rattle.proof_deeds.specs.raft_store.Store.{past, whole}
+use Rattle.proof_deeds.specs.raft_store.Store as store
+use Rattle.proof_deeds.specs.raft_store.Types.{WorldCandidate, WorldCommand, WorldLeader, WorldMachine, WorldPayload, WorldStore}
+use Rattle.proof_deeds.specs.raft_calls.Feeds.{WorldLed}
+use Rattle.proof_deeds.proofs.raft_calls_proofs.Falls.{WorldCore}
+use Rattle.proof_deeds.proofs.raft_calls_proofs.Stored.{IsPlainPayload}
+use Rattle.proof_deeds.specs.proof_mirror.Ready.{FitsBefore, Ready}
 use Rattle.proof_deeds.specs.Chains.{left_by, stored}
 use Rattle.proof_progress.specs.Changes.{OwnsVote, stored_members}
 use Rattle.proof_progress.specs.Elections.{Listed}

@@ -4,12 +4,12 @@ use Rattle.std.specs.Prelude.{◌||◌, filter, map, nat_eq}
 use Rattle.std.specs.List.{AllByRecursion, list_any}
 use Rattle.std.specs.Ordering.{is_eq, nat_cmp}
 use Rattle.std.proofs.lemmas.Bool.Decides.{nat_tests}
-use Rattle.raft_state.specs.declared.membership.Members.{Members}
-use Rattle.raft_state.specs.Members.{contains, is_voter, learner_ids, voter_ids}
-use Rattle.raft_state.specs.Sorted.{has_id}
-use Rattle.raft_state.proofs.Orders.{or_left, or_right}
-use Rattle.raft_progress.specs.Quorum.{is_quorum}
-use Rattle.raft_node.specs.Execute.{others}
+use Rattle.proof_deeds.specs.raft_state.declared.membership.Members.{Members}
+use Rattle.proof_deeds.specs.raft_state.Members.{contains, is_voter, learner_ids, voter_ids}
+use Rattle.proof_deeds.specs.raft_state.Sorted.{has_id}
+use Rattle.proof_deeds.proofs.raft_state_proofs.Orders.{or_left, or_right}
+use Rattle.proof_deeds.specs.raft_progress.Quorum.{is_quorum}
+use Rattle.proof_deeds.specs.raft_node.Execute.{others}
 use Rattle.proof_progress.specs.Elections.{Listed}
 use Rattle.proof_progress.proofs.Conditions.{over}
 use Rattle.proof_progress.proofs.Elects.{itself}

@@ -9,34 +9,34 @@ use Rattle.std.proofs.lemmas.Bool.Decides.{nat_tests}
 use Rattle.std.proofs.lemmas.Cmp.{nat_cmp_total}
 use Rattle.std.proofs.lemmas.List.{length-append}
 use Rattle.std.proofs.lemmas.List.Elements.{All-contains}
-use Rattle.raft_state.specs.declared.ids.LeaderId.{LeaderId}
-use Rattle.raft_state.specs.declared.ids.LogId.{LogId}
-use Rattle.raft_state.specs.declared.ids.Vote.{Vote}
-use Rattle.raft_state.specs.declared.membership.StoredMembership.{StoredMembership}
-use Rattle.raft_state.specs.Invariants.{IsSoundState}
-use Rattle.raft_state.specs.Log.{last}
-use Rattle.raft_state.specs.Members.{learner_ids, voter_ids}
-use Rattle.raft_state.specs.Order.{last_id_cmp, next, vote_cmp}
-use Rattle.raft_state.proofs.Orders.{within_next}
-use Rattle.raft_progress.specs.Quorum.{is_quorum}
-use Rattle.raft_progress.specs.Table.{is_row_of, row_of}
-use Rattle.raft_progress_entry.specs.declared.entry.ProgressEntry.{ProgressEntry}
-use Rattle.raft_command.specs.declared.config.EngineConfig.{EngineConfig}
-use Rattle.raft_proposer.specs.Joint.{u64_max}
-use Rattle.raft_steps.specs.Invariants.{HoldsNodes}
-use Rattle.raft_steps.specs.VoteHandler.{rejects_vote}
-use Rattle.raft_steps.proofs.LawsQueue.{append_append}
-use Rattle.raft_store.specs.declared.entry.Entry.{Entry}
-use Rattle.raft_store.specs.declared.entry.Value.{Value}
-use Rattle.raft_store.specs.Types.{EngineView, WorldLeader}
-use Rattle.raft_schedule.specs.declared.event.Event.{Event}
-use Rattle.raft_node.specs.declared.given.Given.{Given}
-use Rattle.raft_node.specs.Events.{happens}
-use Rattle.raft_node.specs.Held.{IsAtRest}
-use Rattle.raft_node.specs.Net.{Net, NodeView}
-use Rattle.raft_node.specs.Runs.{whole_logs, world_after}
-use Rattle.raft_node.specs.WellFormed.{IsWellFormed}
-use Rattle.raft_node.specs.Work.{weight}
+use Rattle.proof_deeds.specs.raft_state.declared.ids.LeaderId.{LeaderId}
+use Rattle.proof_deeds.specs.raft_state.declared.ids.LogId.{LogId}
+use Rattle.proof_deeds.specs.raft_state.declared.ids.Vote.{Vote}
+use Rattle.proof_deeds.specs.raft_state.declared.membership.StoredMembership.{StoredMembership}
+use Rattle.proof_deeds.specs.raft_state.Invariants.{IsSoundState}
+use Rattle.proof_deeds.specs.raft_state.Log.{last}
+use Rattle.proof_deeds.specs.raft_state.Members.{learner_ids, voter_ids}
+use Rattle.proof_deeds.specs.raft_state.Order.{last_id_cmp, next, vote_cmp}
+use Rattle.proof_deeds.proofs.raft_state_proofs.Orders.{within_next}
+use Rattle.proof_deeds.specs.raft_progress.Quorum.{is_quorum}
+use Rattle.proof_deeds.specs.raft_progress.Table.{is_row_of, row_of}
+use Rattle.proof_deeds.specs.raft_progress_entry.declared.entry.ProgressEntry.{ProgressEntry}
+use Rattle.proof_deeds.specs.raft_command.declared.config.EngineConfig.{EngineConfig}
+use Rattle.proof_deeds.specs.raft_proposer.Joint.{u64_max}
+use Rattle.proof_deeds.specs.raft_steps.Invariants.{HoldsNodes}
+use Rattle.proof_deeds.specs.raft_steps.VoteHandler.{rejects_vote}
+use Rattle.proof_deeds.proofs.raft_steps_proofs.LawsQueue.{append_append}
+use Rattle.proof_deeds.specs.raft_store.declared.entry.Entry.{Entry}
+use Rattle.proof_deeds.specs.raft_store.declared.entry.Value.{Value}
+use Rattle.proof_deeds.specs.raft_store.Types.{EngineView, WorldLeader}
+use Rattle.proof_deeds.specs.raft_schedule.declared.event.Event.{Event}
+use Rattle.proof_deeds.specs.raft_node.declared.given.Given.{Given}
+use Rattle.proof_deeds.specs.raft_node.Events.{happens}
+use Rattle.proof_deeds.specs.raft_node.Held.{IsAtRest}
+use Rattle.proof_deeds.specs.raft_node.Net.{Net, NodeView}
+use Rattle.proof_deeds.specs.raft_node.Runs.{whole_logs, world_after}
+use Rattle.proof_deeds.specs.raft_node.WellFormed.{IsWellFormed}
+use Rattle.proof_deeds.specs.raft_node.Work.{weight}
 use Rattle.proof_deeds.proofs.Proved.{after_resting}
 use Rattle.proof_progress.specs.CatchUps.{CanServe, log_len}
 use Rattle.proof_progress.specs.Commits.{CanCatchUp, ExecutesAfter, HasCommitted, HasValues, needed}

@@ -3,36 +3,36 @@ use Rattle.std.proofs.Common.{ℕ, ◌≡◌, Bool, true, false, ◌&&◌, List,
 use Rattle.std.specs.Prelude.{◌==◌, if◌then◌else◌, is_none, is_some}
 use Rattle.std.specs.declared.cmp.Ordering.TheVariants.{Equal}
 use Rattle.std.specs.Ordering.{bool_cmp, is_eq, nat_cmp}
-use Rattle.raft_state.specs.declared.ids.LeaderId.{LeaderId}
-use Rattle.raft_state.specs.declared.ids.Vote.{Vote}
-use Rattle.raft_state.specs.declared.state.ServerState.{ServerState}
-use Rattle.raft_state.specs.declared.state.ServerState.TheVariants.{Candidate, Follower, Leader, Learner}
-use Rattle.raft_state.specs.Order.{next, vote_cmp}
-use Rattle.raft_progress.specs.Quorum.{is_quorum}
-use Rattle.raft_progress.specs.Table.{get, is_in}
-use Rattle.raft_error.specs.declared.error.EngineError.{EngineError}
-use Rattle.raft_error.specs.Number.{first_refusal}
-use Rattle.raft_command.specs.Message.{is_granted_to}
-use Rattle.raft_command.specs.declared.command.Command.TheVariants.{SaveVote, SendVote}
-use Rattle.raft_command.specs.declared.config.EngineConfig.{EngineConfig}
-use Rattle.raft_command.specs.declared.message.VoteRequest.{VoteRequest}
-use Rattle.raft_command.specs.declared.message.VoteResponse.{VoteResponse}
-use Rattle.raft_proposer.specs.Candidate.{grant_by, is_granted}
-use Rattle.raft_proposer.specs.Joint.{u64_max}
-use Rattle.raft_steps.specs.Engine.{handle_vote_resp, may_establish}
-use Rattle.raft_steps.specs.Refusals.{refusals_of_vote_resp}
-use Rattle.raft_store.specs.declared.entry.Entry.{Entry}
-use Rattle.raft_store.specs.Entries.{entry_meaning}
-use Rattle.raft_store.specs.Types.{EngineView, WorldCandidate, WorldCommand, WorldMachine}
-use Rattle.raft_calls.specs.declared.message.Body.TheVariants as body
-use Rattle.raft_node.specs.declared.node.Turn.{Turn}
-use Rattle.raft_calls.specs.Deliveries.{vote_reply}
-use Rattle.raft_node.specs.Execute.{Effects, others, sending, to_each}
-use Rattle.raft_calls.specs.Feeds.{asks_itself, called, feed, grant_own, own_grant}
-use Rattle.raft_node.specs.Runs.{whole_logs}
-use Rattle.raft_node.specs.Work.{Work, weight, worked}
-use Rattle.raft_calls.specs.Engines.{with_queue}
-use Rattle.raft_node.proofs.Worked.{worked-idle, worked-step}
+use Rattle.proof_deeds.specs.raft_state.declared.ids.LeaderId.{LeaderId}
+use Rattle.proof_deeds.specs.raft_state.declared.ids.Vote.{Vote}
+use Rattle.proof_deeds.specs.raft_state.declared.state.ServerState.{ServerState}
+use Rattle.proof_deeds.specs.raft_state.declared.state.ServerState.TheVariants.{Candidate, Follower, Leader, Learner}
+use Rattle.proof_deeds.specs.raft_state.Order.{next, vote_cmp}
+use Rattle.proof_deeds.specs.raft_progress.Quorum.{is_quorum}
+use Rattle.proof_deeds.specs.raft_progress.Table.{get, is_in}
+use Rattle.proof_deeds.specs.raft_error.declared.error.EngineError.{EngineError}
+use Rattle.proof_deeds.specs.raft_error.Number.{first_refusal}
+use Rattle.proof_deeds.specs.raft_command.Message.{is_granted_to}
+use Rattle.proof_deeds.specs.raft_command.declared.command.Command.TheVariants.{SaveVote, SendVote}
+use Rattle.proof_deeds.specs.raft_command.declared.config.EngineConfig.{EngineConfig}
+use Rattle.proof_deeds.specs.raft_command.declared.message.VoteRequest.{VoteRequest}
+use Rattle.proof_deeds.specs.raft_command.declared.message.VoteResponse.{VoteResponse}
+use Rattle.proof_deeds.specs.raft_proposer.Candidate.{grant_by, is_granted}
+use Rattle.proof_deeds.specs.raft_proposer.Joint.{u64_max}
+use Rattle.proof_deeds.specs.raft_steps.Engine.{handle_vote_resp, may_establish}
+use Rattle.proof_deeds.specs.raft_steps.Refusals.{refusals_of_vote_resp}
+use Rattle.proof_deeds.specs.raft_store.declared.entry.Entry.{Entry}
+use Rattle.proof_deeds.specs.raft_store.Entries.{entry_meaning}
+use Rattle.proof_deeds.specs.raft_store.Types.{EngineView, WorldCandidate, WorldCommand, WorldMachine}
+use Rattle.proof_deeds.specs.raft_calls.declared.message.Body.TheVariants as body
+use Rattle.proof_deeds.specs.raft_node.declared.node.Turn.{Turn}
+use Rattle.proof_deeds.specs.raft_calls.Deliveries.{vote_reply}
+use Rattle.proof_deeds.specs.raft_node.Execute.{Effects, others, sending, to_each}
+use Rattle.proof_deeds.specs.raft_calls.Feeds.{asks_itself, called, feed, grant_own, own_grant}
+use Rattle.proof_deeds.specs.raft_node.Runs.{whole_logs}
+use Rattle.proof_deeds.specs.raft_node.Work.{Work, weight, worked}
+use Rattle.proof_deeds.specs.raft_calls.Engines.{with_queue}
+use Rattle.proof_deeds.proofs.raft_node_proofs.Worked.{worked-idle, worked-step}
 use Rattle.proof_progress.specs.Elections.{pending}
 use Rattle.proof_progress.proofs.Images.{asking, grant_reply, granted_with, quits, standing, streams_after, stood, stood_request, stood_vote}
 use Rattle.proof_progress.proofs.Elects.{and_yes, if_true, itself}
@@ -106,7 +106,7 @@ grant_unrefused config target resp c m s h i room =
     rw s (rw h (go (is_granted_to nat_cmp resp c.vote) (is_none (get nat_cmp c.progress target)) (is_granted (is_quorum nat_cmp) (grant_by nat_cmp c target) && may_establish nat_cmp m.core.state m.leader c && (next c.last_log_id == u64_max)) (some_there (get nat_cmp c.progress target) i) (and_last (is_granted (is_quorum nat_cmp) (grant_by nat_cmp c target)) (may_establish nat_cmp m.core.state m.leader c) (next c.last_log_id == u64_max) room)))
   where
     go : (b x y : Bool) → x ≡ false → y ≡ false
-        → ◌≡◌ {A = Option (EngineError ℕ (Unit {0}))} (if b then first_refusal ((x, Rattle.raft_error.specs.declared.error.EngineError.TheVariants.UnknownTarget) ∷ (y, Rattle.raft_error.specs.declared.error.EngineError.TheVariants.IndexEnd) ∷ []) else None) None
+        → ◌≡◌ {A = Option (EngineError ℕ (Unit {0}))} (if b then first_refusal ((x, Rattle.proof_deeds.specs.raft_error.declared.error.EngineError.TheVariants.UnknownTarget) ∷ (y, Rattle.proof_deeds.specs.raft_error.declared.error.EngineError.TheVariants.IndexEnd) ∷ []) else None) None
     go true x y e f = rw (e, f) refl
     go false x y e f = refl
 

@@ -4,23 +4,23 @@ use Rattle.std.specs.Prelude.{if◌then◌else◌, nat_eq, nat_lt, slice_get, fa
 use Rattle.std.proofs.lemmas.Bool.Decides.{nat_tests}
 use Rattle.std.proofs.lemmas.List.{append-nil}
 use Rattle.std.specs.List.{AllByRecursion}
-use Rattle.raft_state.specs.declared.ids.LogId.{LogId}
-use Rattle.raft_progress_entry.specs.declared.entry.Inflight.{Inflight}
-use Rattle.raft_command.specs.declared.command.Command.TheVariants as command
-use Rattle.raft_command.specs.declared.replication.ReplicationSessionId.{ReplicationSessionId}
-use Rattle.raft_steps.proofs.LawsQueue.{append_append}
-use Rattle.raft_store.specs.declared.entry.Entry.{Entry}
-use Rattle.raft_store.specs.Types.{EngineView, WorldCommand, WorldPayload, WorldStore}
-use Rattle.raft_calls.specs.declared.message.Message.{Message}
-use Rattle.raft_node.specs.declared.node.Streams.{Streams}
-use Rattle.raft_node.specs.declared.node.Turn.{Turn}
-use Rattle.raft_node.specs.Execute.{exec, exec_payload, heartbeat, replicate_committed, replication, sending, to_each}
-use Rattle.raft_calls.specs.Feeds.{feed}
-use Rattle.raft_node.specs.Events.{message_at}
-use Rattle.raft_node.specs.Runs.{whole_logs}
-use Rattle.raft_node.specs.Work.{Work, weight, work_step, worked}
-use Rattle.raft_node.proofs.InTurnSteps.{Turns, exec_turns}
-use Rattle.raft_node.proofs.Worked.{worked-idle, worked-step}
+use Rattle.proof_deeds.specs.raft_state.declared.ids.LogId.{LogId}
+use Rattle.proof_deeds.specs.raft_progress_entry.declared.entry.Inflight.{Inflight}
+use Rattle.proof_deeds.specs.raft_command.declared.command.Command.TheVariants as command
+use Rattle.proof_deeds.specs.raft_command.declared.replication.ReplicationSessionId.{ReplicationSessionId}
+use Rattle.proof_deeds.proofs.raft_steps_proofs.LawsQueue.{append_append}
+use Rattle.proof_deeds.specs.raft_store.declared.entry.Entry.{Entry}
+use Rattle.proof_deeds.specs.raft_store.Types.{EngineView, WorldCommand, WorldPayload, WorldStore}
+use Rattle.proof_deeds.specs.raft_calls.declared.message.Message.{Message}
+use Rattle.proof_deeds.specs.raft_node.declared.node.Streams.{Streams}
+use Rattle.proof_deeds.specs.raft_node.declared.node.Turn.{Turn}
+use Rattle.proof_deeds.specs.raft_node.Execute.{exec, exec_payload, heartbeat, replicate_committed, replication, sending, to_each}
+use Rattle.proof_deeds.specs.raft_calls.Feeds.{feed}
+use Rattle.proof_deeds.specs.raft_node.Events.{message_at}
+use Rattle.proof_deeds.specs.raft_node.Runs.{whole_logs}
+use Rattle.proof_deeds.specs.raft_node.Work.{Work, weight, work_step, worked}
+use Rattle.proof_deeds.proofs.raft_node_proofs.InTurnSteps.{Turns, exec_turns}
+use Rattle.proof_deeds.proofs.raft_node_proofs.Worked.{worked-idle, worked-step}
 use Rattle.proof_progress.specs.Elections.{Listed}
 use Rattle.proof_progress.specs.Exchanges.{HasEntry, IsLeft}
 use Rattle.proof_progress.proofs.Messages.{request_number}

@@ -2,18 +2,18 @@
 use Rattle.std.specs.Prelude.{ℕ, ◌+◌, ◌*◌, ◌≡◌, ◌≢◌, ◌<◌, ◌≤◌, ◌++◌, true, List, ◌∷◌, length, Option}
 use Rattle.std.specs.List.{AllByRecursion}
 use Rattle.std.specs.Ordering.{is_le, nat_cmp}
-use Rattle.raft_state.specs.declared.ids.LogId.{LogId}
-use Rattle.raft_state.specs.declared.ids.Vote.{Vote}
-use Rattle.raft_state.specs.Log.{last}
-use Rattle.raft_state.specs.Order.{last_id_cmp, next}
-use Rattle.raft_state.specs.State.{accepted}
-use Rattle.raft_progress.specs.Table.{get}
-use Rattle.raft_schedule.specs.declared.event.Event.{Event}
-use Rattle.raft_node.specs.declared.given.Given.{Given}
-use Rattle.raft_node.specs.Net.{Net, NodeView}
-use Rattle.raft_node.specs.Runs.{world_after}
-use Rattle.raft_node.specs.WellFormed.{IsWellFormed}
-use Rattle.raft_store.specs.declared.entry.Entry.{Entry}
+use Rattle.proof_deeds.specs.raft_state.declared.ids.LogId.{LogId}
+use Rattle.proof_deeds.specs.raft_state.declared.ids.Vote.{Vote}
+use Rattle.proof_deeds.specs.raft_state.Log.{last}
+use Rattle.proof_deeds.specs.raft_state.Order.{last_id_cmp, next}
+use Rattle.proof_deeds.specs.raft_state.State.{accepted}
+use Rattle.proof_deeds.specs.raft_progress.Table.{get}
+use Rattle.proof_deeds.specs.raft_schedule.declared.event.Event.{Event}
+use Rattle.proof_deeds.specs.raft_node.declared.given.Given.{Given}
+use Rattle.proof_deeds.specs.raft_node.Net.{Net, NodeView}
+use Rattle.proof_deeds.specs.raft_node.Runs.{world_after}
+use Rattle.proof_deeds.specs.raft_node.WellFormed.{IsWellFormed}
+use Rattle.proof_deeds.specs.raft_store.declared.entry.Entry.{Entry}
 use Rattle.proof_progress.specs.Continuations.{At}
 use Rattle.proof_progress.specs.Exchanges.{FollowsAt, HasNumbers, IsLeft, LeadsAt, LeadsOn, MayTake, led}
 use Rattle.proof_progress.specs.Plans.{bring, bring_all}

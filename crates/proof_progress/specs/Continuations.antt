@@ -1,18 +1,18 @@
 -- Continuations: events that go on from a world, and who leads after them.
 use Rattle.std.specs.Prelude.{ℕ, ◌≡◌, ◌≢◌, ◌⊎◌, Bool, false, true, List, [], ◌∷◌, None, Some, fold, slice_get}
-use Rattle.raft_state.specs.declared.ids.LeaderId.{LeaderId}
-use Rattle.raft_store.specs.declared.entry.Entry.{Entry}
-use Rattle.raft_store.specs.declared.entry.Value.{Value}
-use Rattle.raft_store.specs.Types.{EngineView, WorldLeader}
-use Rattle.raft_schedule.specs.declared.event.Event.{Event}
-use Rattle.raft_schedule.specs.declared.event.EventKind.TheVariants as kinds
-use Rattle.raft_schedule.specs.declared.event.Start.{Start}
-use Rattle.raft_schedule.specs.declared.event.Start.TheVariants.{Bare, Plain, Saved}
-use Rattle.raft_node.specs.declared.given.Given.{Given}
-use Rattle.raft_node.specs.Events.{happens}
-use Rattle.raft_node.specs.Net.{Net, NodeView}
-use Rattle.raft_node.specs.Runs.{whole_logs, world_after}
-use Rattle.raft_node.specs.Work.{weight}
+use Rattle.proof_deeds.specs.raft_state.declared.ids.LeaderId.{LeaderId}
+use Rattle.proof_deeds.specs.raft_store.declared.entry.Entry.{Entry}
+use Rattle.proof_deeds.specs.raft_store.declared.entry.Value.{Value}
+use Rattle.proof_deeds.specs.raft_store.Types.{EngineView, WorldLeader}
+use Rattle.proof_deeds.specs.raft_schedule.declared.event.Event.{Event}
+use Rattle.proof_deeds.specs.raft_schedule.declared.event.EventKind.TheVariants as kinds
+use Rattle.proof_deeds.specs.raft_schedule.declared.event.Start.{Start}
+use Rattle.proof_deeds.specs.raft_schedule.declared.event.Start.TheVariants.{Bare, Plain, Saved}
+use Rattle.proof_deeds.specs.raft_node.declared.given.Given.{Given}
+use Rattle.proof_deeds.specs.raft_node.Events.{happens}
+use Rattle.proof_deeds.specs.raft_node.Net.{Net, NodeView}
+use Rattle.proof_deeds.specs.raft_node.Runs.{whole_logs, world_after}
+use Rattle.proof_deeds.specs.raft_node.Work.{weight}
 
 -- the world that events make of a world
 abbrev pub goes_on : Given → List Event → Net (List Entry) → Net (List Entry)

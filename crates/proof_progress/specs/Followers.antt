@@ -2,18 +2,18 @@
 use Rattle.std.specs.Prelude.{ℕ, ◌≡◌, ◌⊎◌, true, false, List, Option, is_some, map}
 use Rattle.std.specs.declared.cmp.Ordering.{Ordering}
 use Rattle.std.specs.Ordering.{is_le}
-use Rattle.raft_state.specs.declared.config.RaftEntry
-use Rattle.raft_state.specs.declared.ids.LogId.{LogId}
-use Rattle.raft_state.specs.declared.ids.Vote.{Vote}
-use Rattle.raft_state.specs.Log.{last}
-use Rattle.raft_state.specs.Order.{last_id_cmp}
-use Rattle.raft_command.specs.Message.{append_response}
-use Rattle.raft_command.specs.declared.config.EngineConfig.{EngineConfig}
-use Rattle.raft_command.specs.declared.message.AppendEntriesResponse.TheVariants.{Conflict, Success}
-use Rattle.raft_steps.specs.Laws.{later}
-use Rattle.raft_steps.specs.Parts.{Machine}
-use Rattle.raft_steps.specs.Requests.{append_answer, append_entries, handle_commit_entries}
-use Rattle.raft_steps.specs.VoteHandler.{rejects_vote}
+use Rattle.proof_deeds.specs.raft_state.declared.config.RaftEntry
+use Rattle.proof_deeds.specs.raft_state.declared.ids.LogId.{LogId}
+use Rattle.proof_deeds.specs.raft_state.declared.ids.Vote.{Vote}
+use Rattle.proof_deeds.specs.raft_state.Log.{last}
+use Rattle.proof_deeds.specs.raft_state.Order.{last_id_cmp}
+use Rattle.proof_deeds.specs.raft_command.Message.{append_response}
+use Rattle.proof_deeds.specs.raft_command.declared.config.EngineConfig.{EngineConfig}
+use Rattle.proof_deeds.specs.raft_command.declared.message.AppendEntriesResponse.TheVariants.{Conflict, Success}
+use Rattle.proof_deeds.specs.raft_steps.Laws.{later}
+use Rattle.proof_deeds.specs.raft_steps.Parts.{Machine}
+use Rattle.proof_deeds.specs.raft_steps.Requests.{append_answer, append_entries, handle_commit_entries}
+use Rattle.proof_deeds.specs.raft_steps.VoteHandler.{rejects_vote}
 
 module _ {NID : Type 0} (C N E D R S : Type 0) (cmp : NID → NID → Ordering) (entry : RaftEntry.Ghosts E NID N) where
   -- a node whose vote isn't above the leader's answers its request with success, or with a conflict at the id before the entries

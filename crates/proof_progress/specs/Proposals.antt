@@ -3,22 +3,22 @@ use Rattle.std.specs.Prelude.{ℕ, ◌+◌, ◌≤◌, ◌≡◌, ◌≢◌, tru
 use Rattle.std.specs.List.{AllByRecursion}
 use Rattle.std.specs.declared.cmp.Ordering.{Ordering}
 use Rattle.std.specs.Ordering.{is_eq}
-use Rattle.raft_state.specs.declared.config.RaftEntry
-use Rattle.raft_state.specs.declared.ids.LogId.{LogId}
-use Rattle.raft_state.specs.Log.{last}
-use Rattle.raft_state.specs.Order.{next, vote_cmp}
-use Rattle.raft_progress.specs.Quorum.{is_quorum}
-use Rattle.raft_progress.specs.Table.{voter_rows}
-use Rattle.raft_command.specs.declared.config.EngineConfig.{EngineConfig}
-use Rattle.raft_command.specs.declared.replication.RequestId.{RequestId}
-use Rattle.raft_command.specs.Replication.{number_of}
-use Rattle.raft_steps.specs.Invariants.{IsSoundLed}
-use Rattle.raft_steps.specs.LeaderHandler.{leader_append_entries}
-use Rattle.raft_steps.specs.Parts.{Led}
-use Rattle.raft_steps.specs.Refusals.{refusals_of_propose}
-use Rattle.raft_steps.specs.Replies.{update_progress}
-use Rattle.raft_steps.specs.ReplicationHandler.{update_local_progress}
-use Rattle.raft_steps.specs.ReplyRefusals.{refusals_of_progress}
+use Rattle.proof_deeds.specs.raft_state.declared.config.RaftEntry
+use Rattle.proof_deeds.specs.raft_state.declared.ids.LogId.{LogId}
+use Rattle.proof_deeds.specs.raft_state.Log.{last}
+use Rattle.proof_deeds.specs.raft_state.Order.{next, vote_cmp}
+use Rattle.proof_deeds.specs.raft_progress.Quorum.{is_quorum}
+use Rattle.proof_deeds.specs.raft_progress.Table.{voter_rows}
+use Rattle.proof_deeds.specs.raft_command.declared.config.EngineConfig.{EngineConfig}
+use Rattle.proof_deeds.specs.raft_command.declared.replication.RequestId.{RequestId}
+use Rattle.proof_deeds.specs.raft_command.Replication.{number_of}
+use Rattle.proof_deeds.specs.raft_steps.Invariants.{IsSoundLed}
+use Rattle.proof_deeds.specs.raft_steps.LeaderHandler.{leader_append_entries}
+use Rattle.proof_deeds.specs.raft_steps.Parts.{Led}
+use Rattle.proof_deeds.specs.raft_steps.Refusals.{refusals_of_propose}
+use Rattle.proof_deeds.specs.raft_steps.Replies.{update_progress}
+use Rattle.proof_deeds.specs.raft_steps.ReplicationHandler.{update_local_progress}
+use Rattle.proof_deeds.specs.raft_steps.ReplyRefusals.{refusals_of_progress}
 use Rattle.proof_progress.specs.Replication.{IsMatched, Rounds}
 
 -- each id once

@@ -2,22 +2,22 @@
 use Rattle.std.specs.Prelude.{ℕ, zero, suc, ◌+◌, ◌*◌, ◌<◌, ◌≤◌, ◌≡◌, ◌≢◌, ◌⊎◌, true, List, ◌∷◌, Option, None, Some, Result, Ok, Err, Contains}
 use Rattle.std.specs.List.{AllByRecursion}
 use Rattle.std.specs.declared.cmp.Ordering.{Ordering}
-use Rattle.raft_state.specs.declared.ids.LogId.{LogId}
-use Rattle.raft_state.specs.Log.{last}
-use Rattle.raft_state.specs.Order.{next}
-use Rattle.raft_progress_entry.specs.declared.entry.Inflight.{Inflight}
-use Rattle.raft_progress_entry.specs.declared.entry.Inflight.TheVariants as inflight
-use Rattle.raft_progress_entry.specs.declared.entry.ProgressEntry.{ProgressEntry}
-use Rattle.raft_progress.specs.Quorum.{is_quorum}
-use Rattle.raft_progress.specs.Table.{get, voter_rows}
-use Rattle.raft_command.specs.declared.config.EngineConfig.{EngineConfig}
-use Rattle.raft_command.specs.declared.replication.RequestId.{RequestId}
-use Rattle.raft_command.specs.declared.replication.RequestId.TheVariants as request
-use Rattle.raft_steps.specs.Invariants.{IsSoundLed}
-use Rattle.raft_steps.specs.Laws.{is_of}
-use Rattle.raft_steps.specs.Parts.{Led}
-use Rattle.raft_steps.specs.Replies.{update_progress}
-use Rattle.raft_steps.specs.ReplyRefusals.{refusals_of_progress}
+use Rattle.proof_deeds.specs.raft_state.declared.ids.LogId.{LogId}
+use Rattle.proof_deeds.specs.raft_state.Log.{last}
+use Rattle.proof_deeds.specs.raft_state.Order.{next}
+use Rattle.proof_deeds.specs.raft_progress_entry.declared.entry.Inflight.{Inflight}
+use Rattle.proof_deeds.specs.raft_progress_entry.declared.entry.Inflight.TheVariants as inflight
+use Rattle.proof_deeds.specs.raft_progress_entry.declared.entry.ProgressEntry.{ProgressEntry}
+use Rattle.proof_deeds.specs.raft_progress.Quorum.{is_quorum}
+use Rattle.proof_deeds.specs.raft_progress.Table.{get, voter_rows}
+use Rattle.proof_deeds.specs.raft_command.declared.config.EngineConfig.{EngineConfig}
+use Rattle.proof_deeds.specs.raft_command.declared.replication.RequestId.{RequestId}
+use Rattle.proof_deeds.specs.raft_command.declared.replication.RequestId.TheVariants as request
+use Rattle.proof_deeds.specs.raft_steps.Invariants.{IsSoundLed}
+use Rattle.proof_deeds.specs.raft_steps.Laws.{is_of}
+use Rattle.proof_deeds.specs.raft_steps.Parts.{Led}
+use Rattle.proof_deeds.specs.raft_steps.Replies.{update_progress}
+use Rattle.proof_deeds.specs.raft_steps.ReplyRefusals.{refusals_of_progress}
 
 -- the request by which something is sent
 abbrev pub request_of : {NID : Type 0} → Inflight NID → RequestId

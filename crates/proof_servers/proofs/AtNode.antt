@@ -8,35 +8,35 @@ use Rattle.std.proofs.lemmas.List.{append-nil}
 use Rattle.std.proofs.lemmas.List.Folds.{find_at, find-set, find_past}
 use Rattle.std.proofs.lemmas.List.Sums.{fold-append}
 use Rattle.std.proofs.lemmas.Option.{get_or_from_slice_get, slice_get_within}
-use Rattle.raft_error.specs.declared.error.EngineError.{EngineError}
-use Rattle.raft_steps.specs.SnapshotCalls.{finish_building_snapshot}
-use Rattle.raft_steps.specs.Refusals.{refusals_of_spent}
+use Rattle.proof_deeds.specs.raft_error.declared.error.EngineError.{EngineError}
+use Rattle.proof_deeds.specs.raft_steps.SnapshotCalls.{finish_building_snapshot}
+use Rattle.proof_deeds.specs.raft_steps.Refusals.{refusals_of_spent}
 use Rattle.std.specs.Ordering.{nat_cmp}
-use Rattle.raft_store.specs.declared.entry.Entry.{Entry}
-use Rattle.raft_store.specs.Built.{meta_of}
-use Rattle.raft_store.specs.Entries.{entry_meaning}
-use Rattle.raft_store.specs.Types.{EngineView}
-use Rattle.raft_schedule.specs.declared.event.Event.{Event}
-use Rattle.raft_schedule.specs.declared.event.EventKind.{EventKind}
-use Rattle.raft_schedule.specs.declared.event.Outcome.{Outcome}
-use Rattle.raft_schedule.specs.declared.event.Outcome.TheVariants.{Skipped}
-use Rattle.raft_schedule.specs.declared.event.SkipReason.{SkipReason}
-use Rattle.raft_schedule.specs.declared.event.SkipReason.TheVariants.{NoMessage, NotRunning}
-use Rattle.raft_schedule.specs.declared.event.Start.TheVariants.{Plain, Saved, Bare}
-use Rattle.raft_node.specs.declared.act.Act.{Act}
-use Rattle.raft_node.specs.declared.act.Act.TheVariants.{Initialize, Elect, Take, Propose, SendHeartbeat, Fail, TriggerSnapshot, FinishSnapshot, TriggerPurge, Restart, ChangeLearners, ChangeMembership, Read, StepDown, Stop}
-use Rattle.raft_node.specs.declared.act.Aim.{Aim}
-use Rattle.raft_node.specs.declared.given.Given.{Given}
-use Rattle.raft_calls.specs.Deliveries.{answered, deliver, with_machine}
-use Rattle.raft_node.specs.Events.{Scene, aim_of, at_node, at_place, calls, calls_at, finish, happens, on_engine, place_of, played, scene, skip_reason, turn_of}
-use Rattle.raft_calls.specs.Elections.{elected, initialized}
-use Rattle.raft_calls.specs.LeaderCalls.{failed, heartbeats_sent, proposed, read_asked, stepped_down}
-use Rattle.raft_calls.specs.Memberships.{learners_changed, membership_changed}
-use Rattle.raft_node.specs.Net.{Net, NodeView, Records, no_records, node_at}
-use Rattle.raft_node.specs.Runs.{net_of, whole_logs, with_event, world_after, start}
-use Rattle.raft_node.specs.Snapshots.{finish_snapshot, kept_built}
-use Rattle.raft_calls.specs.Snapshots.{purge_triggered, snapshot_triggered, told_built}
-use Rattle.raft_node.specs.Work.{weight}
+use Rattle.proof_deeds.specs.raft_store.declared.entry.Entry.{Entry}
+use Rattle.proof_deeds.specs.raft_store.Built.{meta_of}
+use Rattle.proof_deeds.specs.raft_store.Entries.{entry_meaning}
+use Rattle.proof_deeds.specs.raft_store.Types.{EngineView}
+use Rattle.proof_deeds.specs.raft_schedule.declared.event.Event.{Event}
+use Rattle.proof_deeds.specs.raft_schedule.declared.event.EventKind.{EventKind}
+use Rattle.proof_deeds.specs.raft_schedule.declared.event.Outcome.{Outcome}
+use Rattle.proof_deeds.specs.raft_schedule.declared.event.Outcome.TheVariants.{Skipped}
+use Rattle.proof_deeds.specs.raft_schedule.declared.event.SkipReason.{SkipReason}
+use Rattle.proof_deeds.specs.raft_schedule.declared.event.SkipReason.TheVariants.{NoMessage, NotRunning}
+use Rattle.proof_deeds.specs.raft_schedule.declared.event.Start.TheVariants.{Plain, Saved, Bare}
+use Rattle.proof_deeds.specs.raft_node.declared.act.Act.{Act}
+use Rattle.proof_deeds.specs.raft_node.declared.act.Act.TheVariants.{Initialize, Elect, Take, Propose, SendHeartbeat, Fail, TriggerSnapshot, FinishSnapshot, TriggerPurge, Restart, ChangeLearners, ChangeMembership, Read, StepDown, Stop}
+use Rattle.proof_deeds.specs.raft_node.declared.act.Aim.{Aim}
+use Rattle.proof_deeds.specs.raft_node.declared.given.Given.{Given}
+use Rattle.proof_deeds.specs.raft_calls.Deliveries.{answered, deliver, with_machine}
+use Rattle.proof_deeds.specs.raft_node.Events.{Scene, aim_of, at_node, at_place, calls, calls_at, finish, happens, on_engine, place_of, played, scene, skip_reason, turn_of}
+use Rattle.proof_deeds.specs.raft_calls.Elections.{elected, initialized}
+use Rattle.proof_deeds.specs.raft_calls.LeaderCalls.{failed, heartbeats_sent, proposed, read_asked, stepped_down}
+use Rattle.proof_deeds.specs.raft_calls.Memberships.{learners_changed, membership_changed}
+use Rattle.proof_deeds.specs.raft_node.Net.{Net, NodeView, Records, no_records, node_at}
+use Rattle.proof_deeds.specs.raft_node.Runs.{net_of, whole_logs, with_event, world_after, start}
+use Rattle.proof_deeds.specs.raft_node.Snapshots.{finish_snapshot, kept_built}
+use Rattle.proof_deeds.specs.raft_calls.Snapshots.{purge_triggered, snapshot_triggered, told_built}
+use Rattle.proof_deeds.specs.raft_node.Work.{weight}
 use Rattle.proof_servers.specs.Recorded.{records_behind}
 use Rattle.proof_servers.specs.Servers.{Step, node_after, event_at, played_alone}
 use Rattle.proof_servers.proofs.Frame.{played_behind}

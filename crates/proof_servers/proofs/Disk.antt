@@ -3,41 +3,41 @@ use Rattle.std.specs.Prelude.{◌≡◌, ◌≤◌, max, ℕ, Bool, true, false,
 use Rattle.std.specs.Ordering.{nat_cmp}
 use Rattle.std.proofs.Common.{◌∙◌, sym, ap, arith}
 use Rattle.std.proofs.lemmas.Bool.{leb-true}
-use Rattle.raft_state.specs.declared.ids.LogId.{LogId}
-use Rattle.raft_state.specs.Order.{next}
-use Rattle.raft_error.specs.declared.error.EngineError.{EngineError}
-use Rattle.raft_command.specs.declared.config.EngineConfig.{EngineConfig}
-use Rattle.raft_steps.specs.Parts.{idle}
-use Rattle.raft_steps.specs.SnapshotCalls.{finish_building_snapshot}
-use Rattle.raft_steps.specs.Refusals.{refusals_of_spent}
-use Rattle.raft_store.specs.declared.entry.Entry.{Entry}
-use Rattle.raft_store.specs.Built.{meta_of}
-use Rattle.raft_store.specs.Entries.{entry_meaning}
-use Rattle.raft_store.specs.Restart.{forgotten, is_outrun, rebuilt, settled, settled_by, start_committed}
-use Rattle.raft_store.specs.Store.{exec_all, whole}
-use Rattle.raft_store.specs.Types.{EngineView, WorldCommand, WorldStore}
-use Rattle.raft_schedule.specs.declared.event.EventKind.TheVariants as event
-use Rattle.raft_schedule.specs.declared.event.Outcome.{Outcome}
-use Rattle.raft_schedule.specs.declared.event.Outcome.TheVariants.{Skipped}
-use Rattle.raft_schedule.specs.declared.event.SkipReason.{SkipReason}
-use Rattle.raft_schedule.specs.declared.event.Start.TheVariants.{Plain, Saved, Bare}
-use Rattle.raft_node.specs.declared.act.Act.{Act}
-use Rattle.raft_node.specs.declared.act.Act.TheVariants.{Initialize, Elect, Take, Propose, SendHeartbeat, Fail, TriggerSnapshot, FinishSnapshot, TriggerPurge, Restart, ChangeLearners, ChangeMembership, Read, StepDown, Stop}
-use Rattle.raft_node.specs.declared.given.Given.{Given}
-use Rattle.raft_node.specs.declared.node.Turn.{Turn}
-use Rattle.raft_node.specs.Commands.{executed}
-use Rattle.raft_calls.specs.Deliveries.{answered, deliver, with_machine}
-use Rattle.raft_node.specs.Events.{Scene, calls, calls_at, finish, on_engine, played, scene, skip_reason, skip_running, skip_stopped, turn_of, work_of}
-use Rattle.raft_calls.specs.Elections.{elected, initialized}
-use Rattle.raft_calls.specs.LeaderCalls.{failed, heartbeats_sent, proposed, read_asked, stepped_down}
-use Rattle.raft_calls.specs.Memberships.{learners_changed, membership_changed}
-use Rattle.raft_node.specs.Net.{NodeView, no_records, no_streams}
-use Rattle.raft_node.specs.Runs.{whole_logs}
-use Rattle.raft_node.specs.Snapshots.{finish_snapshot, kept_built}
-use Rattle.raft_calls.specs.Snapshots.{purge_triggered, snapshot_triggered, told_built}
-use Rattle.raft_calls.specs.Starts.{begun_anew}
-use Rattle.raft_node.specs.Work.{Work, weight}
-use Rattle.raft_node.proofs.InTurnSteps.{worked_store}
+use Rattle.proof_deeds.specs.raft_state.declared.ids.LogId.{LogId}
+use Rattle.proof_deeds.specs.raft_state.Order.{next}
+use Rattle.proof_deeds.specs.raft_error.declared.error.EngineError.{EngineError}
+use Rattle.proof_deeds.specs.raft_command.declared.config.EngineConfig.{EngineConfig}
+use Rattle.proof_deeds.specs.raft_steps.Parts.{idle}
+use Rattle.proof_deeds.specs.raft_steps.SnapshotCalls.{finish_building_snapshot}
+use Rattle.proof_deeds.specs.raft_steps.Refusals.{refusals_of_spent}
+use Rattle.proof_deeds.specs.raft_store.declared.entry.Entry.{Entry}
+use Rattle.proof_deeds.specs.raft_store.Built.{meta_of}
+use Rattle.proof_deeds.specs.raft_store.Entries.{entry_meaning}
+use Rattle.proof_deeds.specs.raft_store.Restart.{forgotten, is_outrun, rebuilt, settled, settled_by, start_committed}
+use Rattle.proof_deeds.specs.raft_store.Store.{exec_all, whole}
+use Rattle.proof_deeds.specs.raft_store.Types.{EngineView, WorldCommand, WorldStore}
+use Rattle.proof_deeds.specs.raft_schedule.declared.event.EventKind.TheVariants as event
+use Rattle.proof_deeds.specs.raft_schedule.declared.event.Outcome.{Outcome}
+use Rattle.proof_deeds.specs.raft_schedule.declared.event.Outcome.TheVariants.{Skipped}
+use Rattle.proof_deeds.specs.raft_schedule.declared.event.SkipReason.{SkipReason}
+use Rattle.proof_deeds.specs.raft_schedule.declared.event.Start.TheVariants.{Plain, Saved, Bare}
+use Rattle.proof_deeds.specs.raft_node.declared.act.Act.{Act}
+use Rattle.proof_deeds.specs.raft_node.declared.act.Act.TheVariants.{Initialize, Elect, Take, Propose, SendHeartbeat, Fail, TriggerSnapshot, FinishSnapshot, TriggerPurge, Restart, ChangeLearners, ChangeMembership, Read, StepDown, Stop}
+use Rattle.proof_deeds.specs.raft_node.declared.given.Given.{Given}
+use Rattle.proof_deeds.specs.raft_node.declared.node.Turn.{Turn}
+use Rattle.proof_deeds.specs.raft_node.Commands.{executed}
+use Rattle.proof_deeds.specs.raft_calls.Deliveries.{answered, deliver, with_machine}
+use Rattle.proof_deeds.specs.raft_node.Events.{Scene, calls, calls_at, finish, on_engine, played, scene, skip_reason, skip_running, skip_stopped, turn_of, work_of}
+use Rattle.proof_deeds.specs.raft_calls.Elections.{elected, initialized}
+use Rattle.proof_deeds.specs.raft_calls.LeaderCalls.{failed, heartbeats_sent, proposed, read_asked, stepped_down}
+use Rattle.proof_deeds.specs.raft_calls.Memberships.{learners_changed, membership_changed}
+use Rattle.proof_deeds.specs.raft_node.Net.{NodeView, no_records, no_streams}
+use Rattle.proof_deeds.specs.raft_node.Runs.{whole_logs}
+use Rattle.proof_deeds.specs.raft_node.Snapshots.{finish_snapshot, kept_built}
+use Rattle.proof_deeds.specs.raft_calls.Snapshots.{purge_triggered, snapshot_triggered, told_built}
+use Rattle.proof_deeds.specs.raft_calls.Starts.{begun_anew}
+use Rattle.proof_deeds.specs.raft_node.Work.{Work, weight}
+use Rattle.proof_deeds.proofs.raft_node_proofs.InTurnSteps.{worked_store}
 use Rattle.raft_wire.specs.declared.record.Began.{Began}
 use Rattle.raft_wire.specs.declared.record.Began.TheVariants.{Built, Settled, Unchanged}
 use Rattle.raft_wire.specs.declared.record.Change.{Change}

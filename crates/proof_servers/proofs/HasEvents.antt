@@ -4,14 +4,14 @@ use Rattle.std.specs.List.{slice_index_or}
 use Rattle.std.specs.Option.{option_map}
 use Rattle.std.proofs.Common.{◌∙◌, ap, arith, zero, suc}
 use Rattle.std.proofs.lemmas.Bool.Decides.{nat_tests}
-use Rattle.raft_schedule.specs.declared.event.EventKind.{EventKind}
-use Rattle.raft_schedule.specs.declared.event.EventKind.TheVariants as event
-use Rattle.raft_node.specs.declared.act.Act.{Act}
-use Rattle.raft_node.specs.declared.act.Act.TheVariants.{Initialize, Elect, Take, Propose, SendHeartbeat, Fail, TriggerSnapshot, FinishSnapshot, TriggerPurge, Restart, ChangeLearners, ChangeMembership, Read, StepDown, Stop}
-use Rattle.raft_node.specs.declared.act.Aim.{Aim}
-use Rattle.raft_calls.specs.declared.elections.Candidates.TheVariants.{AllMembers, Voters}
-use Rattle.raft_calls.specs.declared.message.Message.{Message}
-use Rattle.raft_node.specs.Events.{aim_of}
+use Rattle.proof_deeds.specs.raft_schedule.declared.event.EventKind.{EventKind}
+use Rattle.proof_deeds.specs.raft_schedule.declared.event.EventKind.TheVariants as event
+use Rattle.proof_deeds.specs.raft_node.declared.act.Act.{Act}
+use Rattle.proof_deeds.specs.raft_node.declared.act.Act.TheVariants.{Initialize, Elect, Take, Propose, SendHeartbeat, Fail, TriggerSnapshot, FinishSnapshot, TriggerPurge, Restart, ChangeLearners, ChangeMembership, Read, StepDown, Stop}
+use Rattle.proof_deeds.specs.raft_node.declared.act.Aim.{Aim}
+use Rattle.proof_deeds.specs.raft_calls.declared.elections.Candidates.TheVariants.{AllMembers, Voters}
+use Rattle.proof_deeds.specs.raft_calls.declared.message.Message.{Message}
+use Rattle.proof_deeds.specs.raft_node.Events.{aim_of}
 use Rattle.proof_servers.specs.Follows.{HasEvent}
 use Rattle.proof_servers.specs.Servers.{MayTake}
 

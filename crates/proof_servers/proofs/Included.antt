@@ -4,13 +4,13 @@ use Rattle.std.specs.List.{slice_index_or}
 use Rattle.std.proofs.Common.{inl, inr, sym, ap, subst, arith, zero, suc}
 use Rattle.std.proofs.lemmas.List.Concat.{flat_map_single}
 use Rattle.std.proofs.lemmas.List.Elements.{Contains-append_cases, Contains-append_left, Contains-append_right}
-use Rattle.raft_store.specs.declared.entry.Entry.{Entry}
-use Rattle.raft_node.specs.declared.record.Decided.{Decided}
-use Rattle.raft_node.specs.declared.record.Established.{Established}
-use Rattle.raft_node.specs.declared.record.Executed.{Executed}
-use Rattle.raft_node.specs.declared.record.Installed.{Installed}
-use Rattle.raft_node.specs.Net.{Records}
-use Rattle.raft_node.specs.Safety.{entries_of}
+use Rattle.proof_deeds.specs.raft_store.declared.entry.Entry.{Entry}
+use Rattle.proof_deeds.specs.raft_node.declared.record.Decided.{Decided}
+use Rattle.proof_deeds.specs.raft_node.declared.record.Established.{Established}
+use Rattle.proof_deeds.specs.raft_node.declared.record.Executed.{Executed}
+use Rattle.proof_deeds.specs.raft_node.declared.record.Installed.{Installed}
+use Rattle.proof_deeds.specs.raft_node.Net.{Records}
+use Rattle.proof_deeds.specs.raft_node.Safety.{entries_of}
 use Rattle.proof_servers.specs.Follows.{AreIncluded, IsSubset}
 use Rattle.proof_servers.specs.Recorded.{decided_as, established_as, joined, records_behind}
 

@@ -2,28 +2,28 @@
 -- lose, or not.
 use Rattle.std.specs.Prelude.{◌≡◌, ℕ, ◌-◌, ◌^◌, List, [], ◌∷◌, ◌++◌, Contains, Some, length, map, refl}
 use Rattle.std.proofs.Common.{arith}
-use Rattle.raft_steps.specs.Commit.{commit_by}
-use Rattle.raft_steps.specs.Engine.{elect, handle_vote_resp, initialize, lead_by_votes, take_grant}
-use Rattle.raft_steps.specs.FollowingHandler.{do_append_entries}
-use Rattle.raft_steps.specs.LeaderHandler.{leader_append_entries, proposed}
-use Rattle.raft_steps.specs.ReplicationHandler.{initiate_replication, rebuild_replication_streams, try_commit_quorum_accepted, update_local_progress}
-use Rattle.raft_steps.specs.Requests.{handle_vote_req, vote_req_answer}
-use Rattle.raft_steps.specs.ServerStateHandler.{update_role}
-use Rattle.raft_steps.specs.SnapshotHandler.{snapshot_where_due, trigger_snapshot}
-use Rattle.raft_steps.specs.Starts.{startup}
-use Rattle.raft_steps.specs.VoteHandler.{become_following, become_leader, begin_lead, lead_anew, update_internal_server_state, update_vote}
-use Rattle.raft_steps.proofs.Example.{lid, pending, settings}
-use Rattle.raft_store.specs.declared.entry.Entry.{Entry}
-use Rattle.raft_store.specs.declared.entry.Payload.TheVariants.{Value}
-use Rattle.raft_store.specs.declared.entry.Value.TheVariants.{Number}
-use Rattle.raft_store.specs.Store.{whole}
-use Rattle.raft_node.specs.declared.act.Act.TheVariants.{Initialize, Propose, SendHeartbeat, Take}
-use Rattle.raft_node.specs.declared.given.Given.{Given}
-use Rattle.raft_calls.specs.declared.message.Body.TheVariants as body
-use Rattle.raft_calls.specs.declared.message.Message.{Message}
-use Rattle.raft_node.specs.Events.{finish, place_of, played}
-use Rattle.raft_calls.specs.Elections.{first_entry}
-use Rattle.raft_node.specs.Work.{worked}
+use Rattle.proof_deeds.specs.raft_steps.Commit.{commit_by}
+use Rattle.proof_deeds.specs.raft_steps.Engine.{elect, handle_vote_resp, initialize, lead_by_votes, take_grant}
+use Rattle.proof_deeds.specs.raft_steps.FollowingHandler.{do_append_entries}
+use Rattle.proof_deeds.specs.raft_steps.LeaderHandler.{leader_append_entries, proposed}
+use Rattle.proof_deeds.specs.raft_steps.ReplicationHandler.{initiate_replication, rebuild_replication_streams, try_commit_quorum_accepted, update_local_progress}
+use Rattle.proof_deeds.specs.raft_steps.Requests.{handle_vote_req, vote_req_answer}
+use Rattle.proof_deeds.specs.raft_steps.ServerStateHandler.{update_role}
+use Rattle.proof_deeds.specs.raft_steps.SnapshotHandler.{snapshot_where_due, trigger_snapshot}
+use Rattle.proof_deeds.specs.raft_steps.Starts.{startup}
+use Rattle.proof_deeds.specs.raft_steps.VoteHandler.{become_following, become_leader, begin_lead, lead_anew, update_internal_server_state, update_vote}
+use Rattle.proof_deeds.proofs.raft_steps_proofs.Example.{lid, pending, settings}
+use Rattle.proof_deeds.specs.raft_store.declared.entry.Entry.{Entry}
+use Rattle.proof_deeds.specs.raft_store.declared.entry.Payload.TheVariants.{Value}
+use Rattle.proof_deeds.specs.raft_store.declared.entry.Value.TheVariants.{Number}
+use Rattle.proof_deeds.specs.raft_store.Store.{whole}
+use Rattle.proof_deeds.specs.raft_node.declared.act.Act.TheVariants.{Initialize, Propose, SendHeartbeat, Take}
+use Rattle.proof_deeds.specs.raft_node.declared.given.Given.{Given}
+use Rattle.proof_deeds.specs.raft_calls.declared.message.Body.TheVariants as body
+use Rattle.proof_deeds.specs.raft_calls.declared.message.Message.{Message}
+use Rattle.proof_deeds.specs.raft_node.Events.{finish, place_of, played}
+use Rattle.proof_deeds.specs.raft_calls.Elections.{first_entry}
+use Rattle.proof_deeds.specs.raft_node.Work.{worked}
 use Rattle.raft_wire.specs.declared.record.Record.{Record}
 use Rattle.proof_deeds.proofs.RunRows.{alone, blank, trio}
 use Rattle.proof_servers.specs.Servers.{Action, AllMayAct, Cluster, Crashes, Flushes, Takes, WaitingStep, after_actions, new_cluster}

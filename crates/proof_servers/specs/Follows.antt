@@ -2,15 +2,15 @@
 -- is ahead of its node there by the steps that wait. So an event of the world is a step that came on disk; a step that was
 -- lost in a crash never happened.
 use Rattle.std.specs.Prelude.{ℕ, ◌≡◌, ◌≤◌, List, [], ◌∷◌, Some, map, Contains}
-use Rattle.raft_store.specs.declared.entry.Entry.{Entry}
-use Rattle.raft_schedule.specs.declared.event.Event.{Event}
-use Rattle.raft_schedule.specs.declared.event.EventKind.{EventKind}
-use Rattle.raft_node.specs.declared.act.Act.{Act}
-use Rattle.raft_node.specs.declared.given.Given.{Given}
-use Rattle.raft_calls.specs.declared.message.Message.{Message}
-use Rattle.raft_node.specs.Events.{aim_of}
-use Rattle.raft_node.specs.Net.{Net, NodeView, Records, node_at}
-use Rattle.raft_node.specs.Runs.{world_after}
+use Rattle.proof_deeds.specs.raft_store.declared.entry.Entry.{Entry}
+use Rattle.proof_deeds.specs.raft_schedule.declared.event.Event.{Event}
+use Rattle.proof_deeds.specs.raft_schedule.declared.event.EventKind.{EventKind}
+use Rattle.proof_deeds.specs.raft_node.declared.act.Act.{Act}
+use Rattle.proof_deeds.specs.raft_node.declared.given.Given.{Given}
+use Rattle.proof_deeds.specs.raft_calls.declared.message.Message.{Message}
+use Rattle.proof_deeds.specs.raft_node.Events.{aim_of}
+use Rattle.proof_deeds.specs.raft_node.Net.{Net, NodeView, Records, node_at}
+use Rattle.proof_deeds.specs.raft_node.Runs.{world_after}
 use Rattle.raft_wire.specs.Records.{on_disk}
 use Rattle.proof_servers.specs.Servers.{Cluster, Server, WaitingStep, disk_records, node_after, node_after_all, outputs_of, reserved_after, reserved_after_all}
 

@@ -1,17 +1,17 @@
 -- What is promised of servers, whatever they do and whenever they crash.
 use Rattle.std.specs.Prelude.{ℕ, ◌≡◌, ◌<◌, ◌≤◌, ◌++◌, List, Contains, Some}
-use Rattle.raft_store.specs.declared.entry.Entry.{Entry}
-use Rattle.raft_schedule.specs.declared.event.Event.{Event}
-use Rattle.raft_node.specs.declared.act.Act.{Act}
-use Rattle.raft_node.specs.declared.given.Given.{Given}
-use Rattle.raft_node.specs.declared.record.Executed.{Executed}
-use Rattle.raft_node.specs.Events.{Scene, played}
-use Rattle.raft_node.specs.Held.{IsAtRest}
-use Rattle.raft_node.specs.Net.{Net, Records, node_at}
-use Rattle.raft_node.specs.Runs.{world_after}
-use Rattle.raft_node.specs.Safety.{AllAgree, entries_of}
-use Rattle.raft_node.specs.WellFormed.{IsWellFormed}
-use Rattle.raft_node.specs.Work.{weight}
+use Rattle.proof_deeds.specs.raft_store.declared.entry.Entry.{Entry}
+use Rattle.proof_deeds.specs.raft_schedule.declared.event.Event.{Event}
+use Rattle.proof_deeds.specs.raft_node.declared.act.Act.{Act}
+use Rattle.proof_deeds.specs.raft_node.declared.given.Given.{Given}
+use Rattle.proof_deeds.specs.raft_node.declared.record.Executed.{Executed}
+use Rattle.proof_deeds.specs.raft_node.Events.{Scene, played}
+use Rattle.proof_deeds.specs.raft_node.Held.{IsAtRest}
+use Rattle.proof_deeds.specs.raft_node.Net.{Net, Records, node_at}
+use Rattle.proof_deeds.specs.raft_node.Runs.{world_after}
+use Rattle.proof_deeds.specs.raft_node.Safety.{AllAgree, entries_of}
+use Rattle.proof_deeds.specs.raft_node.WellFormed.{IsWellFormed}
+use Rattle.proof_deeds.specs.raft_node.Work.{weight}
 use Rattle.proof_servers.specs.Follows.{Follows}
 use Rattle.proof_servers.specs.Recorded.{scene_behind}
 use Rattle.proof_servers.specs.Servers.{Action, AllMayAct, Cluster, after_actions, new_cluster}

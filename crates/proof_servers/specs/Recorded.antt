@@ -1,12 +1,12 @@
 -- Records behind other records: what an event at a node records is the same whatever was recorded before, and whatever is
 -- kept of whole logs (`Laws`, `Frames`).
 use Rattle.std.specs.Prelude.{◌++◌, map}
-use Rattle.raft_node.specs.declared.record.Decided.{Decided}
-use Rattle.raft_node.specs.declared.record.Established.{Established}
-use Rattle.raft_node.specs.Events.{Scene, scene}
-use Rattle.raft_node.specs.Execute.{Effects, effects}
-use Rattle.raft_node.specs.Net.{Records}
-use Rattle.raft_node.specs.Work.{Work}
+use Rattle.proof_deeds.specs.raft_node.declared.record.Decided.{Decided}
+use Rattle.proof_deeds.specs.raft_node.declared.record.Established.{Established}
+use Rattle.proof_deeds.specs.raft_node.Events.{Scene, scene}
+use Rattle.proof_deeds.specs.raft_node.Execute.{Effects, effects}
+use Rattle.proof_deeds.specs.raft_node.Net.{Records}
+use Rattle.proof_deeds.specs.raft_node.Work.{Work}
 
 -- records, and then others
 abbrev pub joined : {L : Type 0} → Records L → Records L → Records L

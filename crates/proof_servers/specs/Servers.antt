@@ -8,24 +8,24 @@
 -- moment moments are reserved, and none above it is used before a record of one is there.
 use Rattle.std.specs.Prelude.{ℕ, ◌≡◌, ◌+◌, ◌-◌, ◌^◌, Bool, List, [], ◌∷◌, ◌++◌, None, Some, fold, max, min, Contains, nat_eq, nat_le, is_some, if◌then◌else◌}
 use Rattle.std.proofs.Common.{suc, zero}
-use Rattle.raft_steps.specs.Refusals.{refusals_of_spent}
-use Rattle.raft_store.specs.declared.entry.Entry.{Entry}
-use Rattle.raft_store.specs.Store.{no_store}
-use Rattle.raft_store.specs.Types.{EngineView, WorldCommand, WorldStore}
-use Rattle.raft_schedule.specs.declared.event.Event.{Event}
-use Rattle.raft_schedule.specs.declared.event.EventKind.{EventKind}
-use Rattle.raft_schedule.specs.declared.event.EventKind.TheVariants as event
-use Rattle.raft_schedule.specs.declared.event.Outcome.{Outcome}
-use Rattle.raft_schedule.specs.declared.event.Start.TheVariants.{Bare}
-use Rattle.raft_node.specs.declared.act.Act.{Act}
-use Rattle.raft_node.specs.declared.act.Act.TheVariants.{FinishSnapshot, Restart, Take}
-use Rattle.raft_node.specs.declared.given.Given.{Given}
-use Rattle.raft_calls.specs.declared.message.Message.{Message}
-use Rattle.raft_node.specs.Commands.{executed}
-use Rattle.raft_node.specs.Events.{Scene, calls, played, scene, skip_reason, turn_of, work_of}
-use Rattle.raft_node.specs.Net.{NodeView, Records, new_node, no_records, no_streams}
-use Rattle.raft_node.specs.Runs.{whole_logs}
-use Rattle.raft_node.specs.Work.{Work, weight}
+use Rattle.proof_deeds.specs.raft_steps.Refusals.{refusals_of_spent}
+use Rattle.proof_deeds.specs.raft_store.declared.entry.Entry.{Entry}
+use Rattle.proof_deeds.specs.raft_store.Store.{no_store}
+use Rattle.proof_deeds.specs.raft_store.Types.{EngineView, WorldCommand, WorldStore}
+use Rattle.proof_deeds.specs.raft_schedule.declared.event.Event.{Event}
+use Rattle.proof_deeds.specs.raft_schedule.declared.event.EventKind.{EventKind}
+use Rattle.proof_deeds.specs.raft_schedule.declared.event.EventKind.TheVariants as event
+use Rattle.proof_deeds.specs.raft_schedule.declared.event.Outcome.{Outcome}
+use Rattle.proof_deeds.specs.raft_schedule.declared.event.Start.TheVariants.{Bare}
+use Rattle.proof_deeds.specs.raft_node.declared.act.Act.{Act}
+use Rattle.proof_deeds.specs.raft_node.declared.act.Act.TheVariants.{FinishSnapshot, Restart, Take}
+use Rattle.proof_deeds.specs.raft_node.declared.given.Given.{Given}
+use Rattle.proof_deeds.specs.raft_calls.declared.message.Message.{Message}
+use Rattle.proof_deeds.specs.raft_node.Commands.{executed}
+use Rattle.proof_deeds.specs.raft_node.Events.{Scene, calls, played, scene, skip_reason, turn_of, work_of}
+use Rattle.proof_deeds.specs.raft_node.Net.{NodeView, Records, new_node, no_records, no_streams}
+use Rattle.proof_deeds.specs.raft_node.Runs.{whole_logs}
+use Rattle.proof_deeds.specs.raft_node.Work.{Work, weight}
 use Rattle.raft_wire.specs.declared.record.Began.{Began}
 use Rattle.raft_wire.specs.declared.record.Began.TheVariants.{Built, Settled, Unchanged}
 use Rattle.raft_wire.specs.declared.record.Record.{Record}

@@ -25,10 +25,10 @@ use Rattle.raft_progress_entry.specs.Entry.{next_send}
 use Rattle.raft_progress.specs.Table.{row_ids, with_value}
 use Rattle.raft_state.specs.Same.{both_equal, equal_of_is_eq, nat_same, leader_id_same}
 use Rattle.raft_steps.specs.Refusals.{refusals_of_vote_resp, refusals_of_local_progress}
-use Rattle.raft_proposer.specs.Candidate.{into_leader, grant_by}
+use Rattle.raft_steps.specs.raft_proposer.Candidate.{into_leader, grant_by}
 use Rattle.raft_steps.specs.Commit.{commit_by}
 use Rattle.raft_steps.specs.Engine.{lead_by_votes, take_grant, handle_vote_resp}
-use Rattle.raft_proposer.specs.Leader.{assigned, last_assigned, leader_in}
+use Rattle.raft_steps.specs.raft_proposer.Leader.{assigned, last_assigned, leader_in}
 use Rattle.raft_steps.specs.SnapshotHandler.{trigger_snapshot, snapshot_where_due}
 use Rattle.raft_steps.specs.LeaderHandler.{leader_append_entries, proposed}
 use Rattle.raft_steps.specs.VoteHandler.{take_vote, begin_lead, lead_anew, become_leader, become_following, update_internal_server_state, update_vote}

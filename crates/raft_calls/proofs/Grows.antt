@@ -23,11 +23,11 @@ use Rattle.raft_command.specs.declared.message.VoteResponse.{VoteResponse}
 use Rattle.raft_command.specs.declared.sm.CommandPayload.TheVariants.{BuildSnapshot}
 use Rattle.raft_command.specs.Push.{ordered, committed_upto}
 use Rattle.raft_command.specs.Queue.{queued}
-use Rattle.raft_proposer.specs.Candidate.{into_leader, candidate_of, grant_by}
+use Rattle.raft_steps.specs.raft_proposer.Candidate.{into_leader, candidate_of, grant_by}
 use Rattle.raft_steps.specs.Commit.{commit_by}
 use Rattle.raft_steps.specs.Engine.{as_uncommitted, default_log_id, elect, initialize, is_granted_to, lead_by_votes, take_grant, take_rejection, handle_vote_resp}
 use Rattle.raft_steps.specs.FollowingHandler.{do_append_entries, with_entries}
-use Rattle.raft_proposer.specs.Leader.{assigned, last_assigned, leader_in}
+use Rattle.raft_steps.specs.raft_proposer.Leader.{assigned, last_assigned, leader_in}
 use Rattle.raft_steps.specs.LeaderHandler.{leader_append_entries, proposed}
 use Rattle.raft_steps.specs.Parts.{then_command, with_state, on_core, leading, on_leader}
 use Rattle.raft_steps.specs.ReplicationHandler.{is_other, sends_of, send_commands, rebuild_replication_streams, initiate_replication, with_entry, own_matched, commit_granted, try_commit_quorum_accepted, update_local_progress}

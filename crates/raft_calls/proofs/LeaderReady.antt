@@ -33,9 +33,9 @@ use Rattle.raft_command.specs.declared.config.EngineConfig.{EngineConfig}
 use Rattle.raft_command.specs.declared.replication.ReplicationResult.{ReplicationResult}
 use Rattle.raft_command.specs.declared.replication.RequestId.{RequestId}
 use Rattle.raft_command.specs.declared.sm.CommandPayload.TheVariants.{BuildSnapshot}
-use Rattle.raft_proposer.specs.Leader.{granted_id}
+use Rattle.raft_steps.specs.raft_proposer.Leader.{granted_id}
 use Rattle.raft_steps.specs.Commit.{commit_by}
-use Rattle.raft_proposer.specs.Leader.{assigned}
+use Rattle.raft_steps.specs.raft_proposer.Leader.{assigned}
 use Rattle.raft_steps.specs.FollowingHandler.{memberships_in}
 use Rattle.raft_steps.specs.Conditions.{MayPropose, may_change_membership, shares_group}
 use Rattle.raft_steps.specs.Engine.{as_uncommitted}

@@ -20,7 +20,7 @@ use Rattle.raft_command.specs.declared.replication.RequestId.{RequestId}
 use Rattle.raft_command.specs.declared.respond.Respond.TheVariants as respond
 use Rattle.raft_command.specs.Message.{append_response}
 use Rattle.raft_command.specs.Push.{with_command}
-use Rattle.raft_proposer.specs.Candidate.{candidate_of, grant_by, into_leader, is_granted}
+use Rattle.raft_steps.specs.raft_proposer.Candidate.{candidate_of, grant_by, into_leader, is_granted}
 use Rattle.raft_steps.specs.Engine.{as_uncommitted, default_log_id, elect, handle_vote_resp, initialize, is_granted_to, lead_by_votes, may_establish, take_grant, take_rejection}
 use Rattle.raft_steps.specs.FollowingHandler.{commit_entries, commit_target, do_append_entries, ensure_log_consecutive, holds_previous, memberships_in, new_entries, truncate_for, with_entries}
 use Rattle.raft_steps.specs.FollowingHandler as following

@@ -1,6 +1,8 @@
 //! Messages, and the calls of an engine that an act or a message makes.
 #![tactic(auto)]
 
+pub use raft_engine;
+
 pub mod bag;
 pub mod deliver;
 pub mod elections;

@@ -11,7 +11,7 @@ ghost use Rattle.raft_calls.specs.Trust.{continues, has_order, in_order, rise};
 
 use crate::feed::last_sent;
 use raft_engine::Engine;
-use raft_handler_common::refusals::{is_below, is_found, is_within};
+use raft_engine::raft_handler_common::refusals::{is_below, is_found, is_within};
 use raft_state::{LeaderId, LogId, LogIds, RaftState};
 use raft_store::{Entry, WorldConfig};
 

@@ -1,7 +1,7 @@
 -- Settings, with times in milliseconds (openraft's `EngineConfig` and `time_state::Config`).
 use Rattle.std.specs.Prelude.{ℕ, ◌*◌, ◌-◌, ◌^◌, min}
-use Rattle.raft_state.specs.declared.policy.SnapshotPolicy.{SnapshotPolicy}
-use Rattle.raft_state.specs.declared.policy.SnapshotPolicy.TheVariants.{LogsSinceLast}
+use Rattle.raft_progress_entry.specs.raft_state.declared.policy.SnapshotPolicy.{SnapshotPolicy}
+use Rattle.raft_progress_entry.specs.raft_state.declared.policy.SnapshotPolicy.TheVariants.{LogsSinceLast}
 use Rattle.raft_command.specs.declared.config.EngineConfig.{EngineConfig}
 use Rattle.raft_command.specs.declared.config.time_state.Config.{Config}
 

@@ -2,8 +2,8 @@
 use Rattle.std.specs.Prelude.{Bool, [], Option, Some, None, Result, Ok, Err, true, false, MatchBool, ◌≡◌, if◌then◌else◌}
 use Rattle.std.specs.declared.alloc.AllocError.{AllocError}
 use Rattle.raft_command.specs.Queue.{Queue, emptied}
-use Rattle.raft_error.specs.declared.error.EngineError.{EngineError}
-use Rattle.raft_error.specs.declared.error.EngineError.TheVariants.{OutOfMemory, Spent}
+use Rattle.raft_progress_entry.specs.raft_error.declared.error.EngineError.{EngineError}
+use Rattle.raft_progress_entry.specs.raft_error.declared.error.EngineError.TheVariants.{OutOfMemory, Spent}
 
 -- the queue after out of memory
 pub record IsSpent {B : Type 0} (q : Queue B) : Type 0 where

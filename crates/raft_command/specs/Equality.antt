@@ -2,11 +2,11 @@
 use Rattle.std.specs.Prelude.{Bool, true, false, ◌&&◌, nat_eq, List, map}
 use Rattle.std.specs.Option.{option_eq}
 use Rattle.std.specs.Cmp.Lexicographic.{pointwise}
-use Rattle.raft_state.specs.IdEquality.{log_id_eq}
-use Rattle.raft_state.specs.declared.ids.LogId.{LogId}
-use Rattle.raft_state.specs.declared.membership.Members.{Members}
-use Rattle.raft_state.specs.declared.membership.StoredMembership.{StoredMembership}
-use Rattle.raft_state.specs.declared.membership.SnapshotMeta.{SnapshotMeta}
+use Rattle.raft_progress_entry.specs.raft_state.IdEquality.{log_id_eq}
+use Rattle.raft_progress_entry.specs.raft_state.declared.ids.LogId.{LogId}
+use Rattle.raft_progress_entry.specs.raft_state.declared.membership.Members.{Members}
+use Rattle.raft_progress_entry.specs.raft_state.declared.membership.StoredMembership.{StoredMembership}
+use Rattle.raft_progress_entry.specs.raft_state.declared.membership.SnapshotMeta.{SnapshotMeta}
 use Rattle.raft_command.specs.Sender.{Sender}
 use Rattle.raft_command.specs.declared.sm.CommandPayload.{CommandPayload}
 use Rattle.raft_command.specs.declared.sm.CommandPayload.TheVariants.{BuildSnapshot, GetSnapshot, BeginReceivingSnapshot, InstallFullSnapshot, Apply}

@@ -4,11 +4,11 @@ use Rattle.std.specs.Cmp.{IsPartialEquivalence, IsEquivalence, partial_equiv_fro
 use Rattle.std.specs.Cmp.Lexicographic.{pointwise, lists_equiv, options_equiv}
 use Rattle.std.proofs.Common.{refl, subst}
 use Rattle.std.proofs.Math.Bool.{and-true}
-use Rattle.raft_state.specs.IdEquality.{log_id_eq, log_id_equiv}
-use Rattle.raft_state.specs.declared.ids.LogId.{LogId}
-use Rattle.raft_state.specs.declared.membership.Members.{Members}
-use Rattle.raft_state.specs.declared.membership.StoredMembership.{StoredMembership}
-use Rattle.raft_state.specs.declared.membership.SnapshotMeta.{SnapshotMeta}
+use Rattle.raft_progress_entry.specs.raft_state.IdEquality.{log_id_eq, log_id_equiv}
+use Rattle.raft_progress_entry.specs.raft_state.declared.ids.LogId.{LogId}
+use Rattle.raft_progress_entry.specs.raft_state.declared.membership.Members.{Members}
+use Rattle.raft_progress_entry.specs.raft_state.declared.membership.StoredMembership.{StoredMembership}
+use Rattle.raft_progress_entry.specs.raft_state.declared.membership.SnapshotMeta.{SnapshotMeta}
 use Rattle.raft_command.specs.Equality.{sender_eq, membership_eq, stored_membership_eq, meta_eq, payload_eq}
 use Rattle.raft_command.specs.Sender.{Sender}
 use Rattle.raft_command.specs.declared.sm.CommandPayload.{CommandPayload}

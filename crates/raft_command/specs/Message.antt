@@ -2,10 +2,10 @@
 use Rattle.std.specs.Prelude.{Bool, true, false, ◌&&◌, Result, Ok, Err}
 use Rattle.std.specs.declared.cmp.Ordering.{Ordering}
 use Rattle.std.specs.Ordering.{is_eq}
-use Rattle.raft_state.specs.Order.{vote_cmp}
-use Rattle.raft_state.specs.declared.ids.Vote.{Vote}
-use Rattle.raft_state.specs.declared.policy.RejectAppendEntries.{RejectAppendEntries}
-use Rattle.raft_state.specs.declared.policy.RejectAppendEntries.TheVariants as reject
+use Rattle.raft_progress_entry.specs.raft_state.Order.{vote_cmp}
+use Rattle.raft_progress_entry.specs.raft_state.declared.ids.Vote.{Vote}
+use Rattle.raft_progress_entry.specs.raft_state.declared.policy.RejectAppendEntries.{RejectAppendEntries}
+use Rattle.raft_progress_entry.specs.raft_state.declared.policy.RejectAppendEntries.TheVariants as reject
 use Rattle.raft_command.specs.declared.message.VoteResponse.{VoteResponse}
 use Rattle.raft_command.specs.declared.message.AppendEntriesResponse.{AppendEntriesResponse}
 use Rattle.raft_command.specs.declared.message.AppendEntriesResponse.TheVariants as response

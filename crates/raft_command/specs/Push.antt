@@ -1,6 +1,6 @@
 -- Commands appended to a queue.
 use Rattle.std.specs.Prelude.{◌+◌, ◌<◌, ◌^◌, ⊤, [], ◌∷◌, Option}
-use Rattle.raft_state.specs.declared.ids.LogId.{LogId}
+use Rattle.raft_progress_entry.specs.raft_state.declared.ids.LogId.{LogId}
 use Rattle.raft_command.specs.declared.command.Command.{Command}
 use Rattle.raft_command.specs.declared.command.Command.TheVariants.{Commit, StateMachine}
 use Rattle.raft_command.specs.declared.sm.CommandPayload.{CommandPayload}

@@ -2,10 +2,10 @@
 use Rattle.std.specs.Prelude.{ℕ, List, ◌++◌, codes, length, Option, None, Some, Ok, Err, if◌then◌else◌}
 use Rattle.std.specs.Option.{option_map}
 use Rattle.std.specs.Fmt.{decimal, ◌++?◌}
-use Rattle.raft_state.specs.declared.ids.Vote.{Vote}
-use Rattle.raft_state.specs.declared.ids.LogId.{LogId}
-use Rattle.raft_state.specs.declared.membership.SnapshotMeta.{SnapshotMeta}
-use Rattle.raft_state.specs.Texts.{vote_text, optional_id_text, meta_text}
+use Rattle.raft_progress_entry.specs.raft_state.declared.ids.Vote.{Vote}
+use Rattle.raft_progress_entry.specs.raft_state.declared.ids.LogId.{LogId}
+use Rattle.raft_progress_entry.specs.raft_state.declared.membership.SnapshotMeta.{SnapshotMeta}
+use Rattle.raft_progress_entry.specs.raft_state.Texts.{vote_text, optional_id_text, meta_text}
 use Rattle.raft_progress_entry.specs.Texts.{range_text}
 use Rattle.raft_command.specs.declared.message.VoteRequest.{VoteRequest}
 use Rattle.raft_command.specs.declared.message.VoteResponse.{VoteResponse}

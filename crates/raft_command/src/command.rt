@@ -7,8 +7,8 @@ ghost use Rattle.raft_command.specs.Kind.{kind_of, condition_of};
 use crate::message::VoteRequest;
 use crate::respond::Respond;
 use crate::sm;
+use raft_progress_entry::raft_state::{Items, LeaderId, LogId, RaftTypeConfig, Vote};
 use raft_progress_entry::{Inflight, ProgressEntry};
-use raft_state::{Items, LeaderId, LogId, RaftTypeConfig, Vote};
 
 /// What a command waits for (openraft's `Condition`).
 #[derive(Clone, Copy, PartialEq, Eq, Debug)]

@@ -3,7 +3,7 @@
 ghost use Rattle.std.specs.Prelude.{◌≡◌};
 ghost use Rattle.raft_command.specs.Config.{new_config, default_config};
 
-use raft_state::{NodeId, SnapshotPolicy};
+use raft_progress_entry::raft_state::{NodeId, SnapshotPolicy};
 
 /// Spans of time, in milliseconds.
 pub mod time_state {

@@ -5,8 +5,8 @@ ghost use Rattle.raft_command.specs.Ends.{Ends, refusals_of_spent};
 
 use crate::command::Command;
 use crate::output::EngineOutput;
-use raft_error::EngineError;
-use raft_state::RaftTypeConfig;
+use raft_progress_entry::raft_error::EngineError;
+use raft_progress_entry::raft_state::RaftTypeConfig;
 
 /// A command that is put back in front is popped first, and the queue is then as it was.
 pub fn take_postponed<C: RaftTypeConfig>(

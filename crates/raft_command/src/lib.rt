@@ -1,6 +1,8 @@
 //! What nodes send to each other, the commands that an engine queues for its runtime, and settings.
 #![tactic(auto)]
 
+pub use raft_progress_entry;
+
 pub mod command;
 pub mod config;
 pub mod laws;

@@ -3,7 +3,7 @@
 ghost use Rattle.std.specs.Prelude.{◌≡◌, None, IfOk};
 ghost use Rattle.raft_command.specs.Message.{is_granted_to, is_success, is_conflict};
 
-use raft_state::{
+use raft_progress_entry::raft_state::{
     DisplayOption, Items, LogId, Membership, Node, NodeId, RaftTypeConfig, RejectAppendEntries,
     SnapshotMeta, Vote,
 };

@@ -9,8 +9,8 @@ ghost use Rattle.raft_command.specs.Push.{pushed, with_command, HasNumber};
 ghost use Rattle.raft_command.specs.Ends.{Ends, Settles, refusals_of_spent};
 
 use crate::command::Command;
-use raft_error::EngineError;
-use raft_state::RaftTypeConfig;
+use raft_progress_entry::raft_error::EngineError;
+use raft_progress_entry::raft_state::RaftTypeConfig;
 use std::alloc::{AllocError, Global};
 use std::collections::VecDeque;
 use std::collections::vec_deque::Iter;

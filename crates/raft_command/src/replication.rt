@@ -6,7 +6,9 @@ ghost use Rattle.raft_command.specs.declared.replication.RequestId.TheVariants a
 
 use crate::message::SnapshotResponse;
 use raft_progress_entry::LogIdRange;
-use raft_state::{DisplayOption, LogId, NodeId, RaftTypeConfig, SnapshotMeta, Vote};
+use raft_progress_entry::raft_state::{
+    DisplayOption, LogId, NodeId, RaftTypeConfig, SnapshotMeta, Vote,
+};
 use std::fmt;
 
 /// One session of replication: a leader under one membership (openraft's `ReplicationSessionId`).

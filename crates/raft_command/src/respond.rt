@@ -6,8 +6,8 @@ ghost use Rattle.raft_command.specs.Reply.{sent};
 use crate::message::{
     AppendEntriesResponse, InstallSnapshotResponse, SnapshotResponse, Token, VoteResponse,
 };
-use raft_error::EngineError;
-use raft_state::RaftTypeConfig;
+use raft_progress_entry::raft_error::EngineError;
+use raft_progress_entry::raft_state::RaftTypeConfig;
 use std::marker::{Model, PhantomData};
 
 /// A value for the caller that the token names (openraft's `ValueSender`). Two are equal if their values are.

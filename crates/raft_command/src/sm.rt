@@ -2,13 +2,13 @@
 
 ghost use Rattle.std.specs.Prelude.{◌≡◌};
 ghost use Rattle.std.specs.List.{list_all, zip};
-ghost use Rattle.raft_state.specs.IdEquality.{log_id_eq};
+ghost use Rattle.raft_progress_entry.specs.raft_state.IdEquality.{log_id_eq};
 ghost use Rattle.raft_command.specs.Equality.{ids_eq};
 ghost use Rattle.raft_command.specs.declared.sm.CommandPayload.TheVariants.{BuildSnapshot, GetSnapshot, BeginReceivingSnapshot};
 ghost use Rattle.raft_command.specs.declared.sm.CommandPayload.TheVariants.{InstallFullSnapshot, Apply};
 
 use crate::message::{Snapshot, Token};
-use raft_state::{Items, RaftEntry, RaftTypeConfig};
+use raft_progress_entry::raft_state::{Items, RaftEntry, RaftTypeConfig};
 
 /// What the state machine has to do (openraft's `sm::CommandPayload`).
 #[derive(Drop)]

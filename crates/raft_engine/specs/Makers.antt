@@ -7,9 +7,9 @@ use Rattle.raft_error.specs.declared.error.EngineError.{EngineError}
 use Rattle.raft_error.specs.declared.error.EngineError.TheVariants.{ForwardToLeader, Spent}
 use Rattle.raft_command.specs.declared.message.Token.{Token}
 use Rattle.raft_engine.specs.declared.engine.Engine.{Engine}
-use Rattle.raft_handler_leader.specs.declared.leader_handler.LeaderHandler.{LeaderHandler}
+use Rattle.raft_handler_vote.specs.raft_handler_leader.declared.leader_handler.LeaderHandler.{LeaderHandler}
 use Rattle.raft_steps.specs.Refusals.{is_spent}
-use Rattle.raft_handler_leader.specs.Handlers.{view_of_leader}
+use Rattle.raft_handler_vote.specs.raft_handler_leader.Handlers.{view_of_leader}
 use Rattle.raft_steps.specs.Parts.{Machine, led_in}
 use Rattle.raft_engine.specs.Whole.{parts}
 

@@ -25,8 +25,8 @@ ghost use Rattle.raft_proposer.specs.Candidate.{candidate_of, grant_by, is_grant
 ghost use Rattle.raft_steps.specs.Engine.{elect, initialize, take_rejection, lead_by_votes, handle_vote_resp, take_grant, may_establish};
 ghost use Rattle.raft_steps.specs.Engine.{default_log_id, sees_greater_log};
 ghost use Rattle.raft_handler_vote.specs.Handlers.{view_of_vote};
-ghost use Rattle.raft_handler_leader.specs.Handlers.{view_of_replication};
-ghost use Rattle.raft_handler_common.specs.Handlers.{view_of_server_state, view_of_snapshot, view_of_establish};
+ghost use Rattle.raft_handler_vote.specs.raft_handler_leader.Handlers.{view_of_replication};
+ghost use Rattle.raft_handler_follower.specs.raft_handler_common.Handlers.{view_of_server_state, view_of_snapshot, view_of_establish};
 ghost use Rattle.raft_handler_follower.specs.Handlers.{view_of_following};
 ghost use Rattle.raft_steps.specs.Invariants.{IsSound, IsSoundUnlessSpent};
 ghost use Rattle.raft_steps.specs.LeaderHandler.{leader_append_entries};
@@ -38,13 +38,17 @@ ghost use Rattle.raft_steps.specs.Sending.{MaySend};
 
 use raft_command::{Command, EngineConfig, EngineOutput, Token, VoteRequest, VoteResponse};
 use raft_error::EngineError;
-use raft_handler_common::establish_handler::{EstablishHandler, leader_of, may_establish};
-use raft_handler_common::order::is_greater_id;
-use raft_handler_common::server_state_handler::{ServerStateHandler, update_role};
-use raft_handler_common::snapshot_handler::SnapshotHandler;
 use raft_handler_follower::following_handler::{FollowingHandler, do_append_entries};
-use raft_handler_leader::leader_handler::LeaderHandler;
-use raft_handler_leader::replication_handler::{
+use raft_handler_follower::raft_handler_common::establish_handler::{
+    EstablishHandler, leader_of, may_establish,
+};
+use raft_handler_follower::raft_handler_common::order::is_greater_id;
+use raft_handler_follower::raft_handler_common::server_state_handler::{
+    ServerStateHandler, update_role,
+};
+use raft_handler_follower::raft_handler_common::snapshot_handler::SnapshotHandler;
+use raft_handler_vote::raft_handler_leader::leader_handler::LeaderHandler;
+use raft_handler_vote::raft_handler_leader::replication_handler::{
     ReplicationHandler, joint_of, learners_of, rebuild_replication_streams,
 };
 use raft_handler_vote::vote_handler::{VoteHandler, propose_blank, update_vote};

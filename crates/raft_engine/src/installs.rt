@@ -17,8 +17,8 @@ use raft_command::{
     Command, Condition, EngineConfig, EngineOutput, Respond, Snapshot, SnapshotResponse, Token,
 };
 use raft_error::EngineError;
-use raft_handler_common::order::rejects_vote;
 use raft_handler_follower::installs::{check_fit, install_full_snapshot};
+use raft_handler_follower::raft_handler_common::order::rejects_vote;
 use raft_handler_vote::vote_handler::update_vote;
 use raft_progress::Joint;
 use raft_proposer::{Candidate, Leader};

@@ -19,8 +19,10 @@ ghost use Rattle.raft_steps.specs.ReplyRefusals.{refusals_of_progress};
 use crate::engine::Engine;
 use raft_command::{EngineConfig, EngineOutput, ReplicationResult, RequestId};
 use raft_error::EngineError;
-use raft_handler_leader::leader_handler::{LeaderHandler, may_change_membership, read_log_id};
-use raft_handler_leader::replication_handler::ReplicationHandler;
+use raft_handler_vote::raft_handler_leader::leader_handler::{
+    LeaderHandler, may_change_membership, read_log_id,
+};
+use raft_handler_vote::raft_handler_leader::replication_handler::ReplicationHandler;
 use raft_progress::Joint;
 use raft_proposer::Leader;
 use raft_state::{LogId, Membership, Node, NodeId, RaftState, RaftTypeConfig};

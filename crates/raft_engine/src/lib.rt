@@ -2,6 +2,8 @@
 //! the public names of the crates below.
 #![tactic(auto)]
 
+pub use raft_handler_follower::raft_handler_common;
+
 pub mod engine;
 pub mod installs;
 pub mod leader_calls;
@@ -19,9 +21,13 @@ pub use raft_command::{
     time_state,
 };
 pub use raft_error::EngineError;
-pub use raft_handler_common::{EstablishHandler, LogHandler, ServerStateHandler, SnapshotHandler};
 pub use raft_handler_follower::FollowingHandler;
-pub use raft_handler_leader::{LeaderHandler, ReplicationHandler, SendNone, shares_group};
+pub use raft_handler_follower::raft_handler_common::{
+    EstablishHandler, LogHandler, ServerStateHandler, SnapshotHandler,
+};
+pub use raft_handler_vote::raft_handler_leader::{
+    LeaderHandler, ReplicationHandler, SendNone, shares_group,
+};
 pub use raft_handler_vote::{ReplyOf, StateOf, VoteHandler};
 pub use raft_progress::{
     Inflight, Joint, LogIdRange, Measured, ProgressEntry, ProgressIter, QuorumSet, VecProgress,

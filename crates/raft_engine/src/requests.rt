@@ -25,10 +25,10 @@ use raft_command::{
     Command, EngineConfig, EngineOutput, Respond, Token, VoteRequest, VoteResponse,
 };
 use raft_error::EngineError;
-use raft_handler_common::order::{is_lower_id, rejects_vote};
-use raft_handler_common::refusals::{is_near_end, taken_blank_is_at_end};
 use raft_handler_follower::following_handler;
 use raft_handler_follower::following_handler::{commit_entries, ensure_log_consecutive};
+use raft_handler_follower::raft_handler_common::order::{is_lower_id, rejects_vote};
+use raft_handler_follower::raft_handler_common::refusals::{is_near_end, taken_blank_is_at_end};
 use raft_handler_follower::request_refusals::{check_follow, check_held};
 use raft_handler_vote::vote_handler::update_vote;
 use raft_progress::Joint;

@@ -4,7 +4,7 @@ ghost use Rattle.std.specs.Prelude.{◌≡◌, ◌+◌, ◌^◌, ◌<◌, not, O
 ghost use Rattle.raft_state.specs.Fits.{fits, is_within};
 ghost use Rattle.raft_command.specs.Ends.{Ends, is_memory};
 ghost use Rattle.raft_steps.specs.Refusals.{refusals_of_spent, refusals_of_counter, refusals_of_trigger_snapshot, rows_in};
-ghost use Rattle.raft_handler_common.specs.Handlers.{view_of_log};
+ghost use Rattle.raft_handler_follower.specs.raft_handler_common.Handlers.{view_of_log};
 ghost use Rattle.raft_steps.specs.Invariants.{IsSoundUnlessSpent};
 ghost use Rattle.raft_steps.specs.LogHandler.{try_purge_log};
 ghost use Rattle.raft_steps.specs.Parts.{core_of, machine_of, on_core};
@@ -16,10 +16,14 @@ ghost use Rattle.raft_steps.specs.SnapshotHandler.{is_newer_snapshot, trigger_sn
 use crate::engine::Engine;
 use raft_command::{Command, EngineConfig, EngineOutput, Token, sm};
 use raft_error::EngineError;
-use raft_handler_common::log_handler;
-use raft_handler_common::log_handler::{LogHandler, purge_log, schedule_policy_based_purge};
-use raft_handler_common::refusals::is_near_end;
-use raft_handler_common::snapshot_handler::{trigger_snapshot, update_snapshot};
+use raft_handler_follower::raft_handler_common::log_handler;
+use raft_handler_follower::raft_handler_common::log_handler::{
+    LogHandler, purge_log, schedule_policy_based_purge,
+};
+use raft_handler_follower::raft_handler_common::refusals::is_near_end;
+use raft_handler_follower::raft_handler_common::snapshot_handler::{
+    trigger_snapshot, update_snapshot,
+};
 use raft_progress::Joint;
 use raft_proposer::Leader;
 use raft_state::{RaftState, RaftTypeConfig, SnapshotMeta, reaches};

@@ -16,8 +16,10 @@ ghost use Rattle.raft_steps.specs.VoteHandler.{update_internal_server_state};
 use crate::engine::Engine;
 use raft_command::{EngineConfig, EngineOutput};
 use raft_error::EngineError;
-use raft_handler_common::refusals::blank_is_at_end;
-use raft_handler_leader::replication_handler::{initiate_replication, update_local_progress};
+use raft_handler_follower::raft_handler_common::refusals::blank_is_at_end;
+use raft_handler_vote::raft_handler_leader::replication_handler::{
+    initiate_replication, update_local_progress,
+};
 use raft_handler_vote::vote_handler::update_internal_server_state;
 use raft_progress::Joint;
 use raft_proposer::{Candidate, Leader};

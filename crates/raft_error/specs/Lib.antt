@@ -1,1 +1,2 @@
+pub mod raft_state
 pub mod Number

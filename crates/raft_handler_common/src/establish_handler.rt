@@ -14,9 +14,9 @@ ghost use Rattle.raft_steps.specs.Parts.{unboxed};
 use crate::order::is_lower_vote;
 use raft_command::{EngineConfig, EngineOutput};
 use raft_error::EngineError;
-use raft_progress::Joint;
 use raft_proposer::{Candidate, Leader};
 use raft_state::{NodeId, RaftState, RaftTypeConfig};
+use raft_steps::raft_progress::Joint;
 use std::alloc::{AllocError, Global};
 
 /// Makes a candidate with a quorum the leader (openraft's `EstablishHandler`; the state and the queue are this

@@ -12,12 +12,12 @@ ghost use Rattle.raft_steps.specs.LogHandler.{purge_log, try_purge_log};
 ghost use Rattle.raft_steps.specs.Parts.{core_of, unboxed};
 
 use crate::order::is_greater_id;
+use raft_command::raft_progress_entry::ProgressEntry;
 use raft_command::{Command, EngineConfig, EngineOutput};
 use raft_error::EngineError;
-use raft_progress::Joint;
-use raft_progress_entry::ProgressEntry;
 use raft_proposer::Leader;
 use raft_state::{LogId, Node, NodeId, RaftState, RaftTypeConfig};
+use raft_steps::raft_progress::Joint;
 use std::alloc::AllocError;
 
 /// Purges the log (openraft's `LogHandler`).

@@ -11,9 +11,9 @@ ghost use Rattle.raft_steps.specs.Room.{leads_anew, is_new, is_full};
 
 use crate::order::rejects_vote;
 use raft_command::{EngineConfig, EngineOutput};
-use raft_progress::Joint;
 use raft_proposer::Leader;
 use raft_state::{LogId, Membership, Node, NodeId, RaftState, RaftTypeConfig, Vote, reaches};
+use raft_steps::raft_progress::Joint;
 
 /// Whether a number is so near its end that a call might not count on from it.
 pub fn is_near_end(number: u64) -> bool

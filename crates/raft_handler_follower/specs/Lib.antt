@@ -1,1 +1,2 @@
+pub mod raft_handler_common
 pub mod Handlers

@@ -1,2 +1,3 @@
+pub mod raft_handler_common
 pub mod Handlers
 pub mod ReplicationHandler

@@ -1,6 +1,8 @@
 //! A leader's handlers: its proposals and reads, what it sends, and how it handles the replies.
 #![tactic(auto)]
 
+pub use raft_handler_common;
+
 pub mod leader_handler;
 pub mod replication_handler;
 pub mod replies;

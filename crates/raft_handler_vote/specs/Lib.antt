@@ -1,1 +1,2 @@
+pub mod raft_handler_leader
 pub mod Handlers

@@ -13,9 +13,9 @@ ghost use Rattle.raft_steps.specs.Refusals.{refusals_of_spent, refusals_of_lead,
 ghost use Rattle.raft_handler_vote.specs.Handlers.{view_of_vote, SameVoteBorrows};
 ghost use Rattle.raft_handler_leader.specs.Handlers.{view_of_leader};
 ghost use Rattle.raft_handler_leader.specs.Handlers.{view_of_replication};
-ghost use Rattle.raft_handler_common.specs.Handlers.{view_of_server_state};
+ghost use Rattle.raft_handler_leader.specs.raft_handler_common.Handlers.{view_of_server_state};
 ghost use Rattle.raft_steps.specs.Invariants.{IsSoundUnlessSpent};
-ghost use Rattle.raft_proposer.specs.Leader.{leader_in};
+ghost use Rattle.raft_steps.specs.raft_proposer.Leader.{leader_in};
 ghost use Rattle.raft_steps.specs.LeaderHandler.{leader_append_entries};
 ghost use Rattle.raft_steps.specs.Parts.{led_in};
 ghost use Rattle.raft_steps.specs.Parts.{core_of, led_of, machine_of, unboxed};
@@ -26,18 +26,20 @@ ghost use Rattle.raft_steps.specs.VoteHandler.{update_vote, vote_answer, take_vo
 
 use raft_command::{Command, EngineConfig, EngineOutput, Respond, Token};
 use raft_error::EngineError;
-use raft_handler_common::order::{is_greater_vote, is_lower_id, rejects_vote};
-use raft_handler_common::refusals::{blank_is_at_end, taken_blank_is_at_end};
-use raft_handler_common::server_state_handler::{ServerStateHandler, update_role};
 use raft_handler_leader::leader_handler::{LeaderHandler, leader_append_entries};
+use raft_handler_leader::raft_handler_common::order::{is_greater_vote, is_lower_id, rejects_vote};
+use raft_handler_leader::raft_handler_common::refusals::{blank_is_at_end, taken_blank_is_at_end};
+use raft_handler_leader::raft_handler_common::server_state_handler::{
+    ServerStateHandler, update_role,
+};
 use raft_handler_leader::replication_handler::{
     ReplicationHandler, joint_of, learners_of, rebuild_replication_streams,
 };
-use raft_progress::Joint;
-use raft_proposer::{Candidate, Leader};
 use raft_state::{
     LogId, Node, NodeId, RaftEntry, RaftState, RaftTypeConfig, RejectVoteRequest, Vote,
 };
+use raft_steps::raft_progress::Joint;
+use raft_steps::raft_proposer::{Candidate, Leader};
 use std::alloc::{AllocError, Global};
 
 /// Adopts votes, and switches the node to the role that follows (openraft's `VoteHandler`).

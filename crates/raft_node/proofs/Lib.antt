@@ -1,3 +1,13 @@
+pub use Rattle.raft_state.proofs as raft_state_proofs
+pub use Rattle.raft_error.proofs as raft_error_proofs
+pub use Rattle.raft_progress_entry.proofs as raft_progress_entry_proofs
+pub use Rattle.raft_progress.proofs as raft_progress_proofs
+pub use Rattle.raft_command.proofs as raft_command_proofs
+pub use Rattle.raft_steps.proofs.raft_proposer_proofs as raft_proposer_proofs
+pub use Rattle.raft_steps.proofs as raft_steps_proofs
+pub use Rattle.raft_store.proofs as raft_store_proofs
+pub use Rattle.raft_schedule.proofs as raft_schedule_proofs
+pub use Rattle.raft_calls.proofs as raft_calls_proofs
 pub mod Along  -- what calls keep, along the equations that they ensure
 pub mod Falls  -- each executed command, with what its feed queues, leaves less to do
 pub mod InTurn  -- stores, replies and conditions are in turn in each run

@@ -1,3 +1,13 @@
+pub mod raft_calls
+pub mod raft_state
+pub mod raft_error
+pub mod raft_progress_entry
+pub mod raft_progress
+pub mod raft_command
+pub use Rattle.raft_steps.specs.raft_proposer
+pub mod raft_steps
+pub mod raft_store
+pub mod raft_schedule
 pub mod Chosen
 pub mod Commands
 pub mod Events

@@ -34,11 +34,11 @@ use raft_calls::lead::{
 };
 use raft_calls::membership::{change_learners, change_membership, skip_change, skip_learners};
 use raft_calls::message::Message;
+use raft_calls::raft_engine::Engine;
 use raft_calls::snapshots::{tell_built, trigger_purge, trigger_snapshot};
 use raft_calls::start::{start_engine, started_engine};
 use raft_calls::trust::{is_sound, note_fits};
 use raft_command::{EngineConfig, ReplicationSessionId};
-use raft_engine::Engine;
 use raft_schedule::event::{Event, Outcome, SkipReason, Start};
 use raft_state::{Items, RaftState};
 use raft_store::{Entry, Store, WorldConfig};

@@ -3,8 +3,8 @@
 ghost use Rattle.std.specs.Prelude.{◌≡◌, OnOk};
 ghost use Rattle.raft_store.specs.Types.{WorldCommand};
 
+use raft_calls::raft_engine::Engine;
 use raft_command::Command;
-use raft_engine::Engine;
 use raft_store::WorldConfig;
 use std::alloc::AllocError;
 

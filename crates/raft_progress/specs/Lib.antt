@@ -1,3 +1,6 @@
+pub use Rattle.raft_progress_entry.specs.raft_error
+pub mod raft_progress_entry
+pub mod raft_state
 pub mod Quorum
 pub mod QuorumLaws
 pub mod Ranking

@@ -3,6 +3,10 @@
 //! An entry of such a table is that of `raft_progress_entry`.
 #![tactic(auto)]
 
+pub use raft_progress_entry;
+pub use raft_progress_entry::raft_error;
+pub use raft_state;
+
 mod granted;
 pub mod measured;
 pub mod quorum;

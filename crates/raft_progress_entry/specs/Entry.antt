@@ -4,12 +4,12 @@ use Rattle.std.specs.Prelude.{ℕ, ◌+◌, ◌-◌, ◌*◌, ◌/◌, ◌==◌,
 use Rattle.std.specs.declared.cmp.Ordering.{Ordering}
 use Rattle.std.specs.Ordering.{is_eq, is_lt, is_le, nat_cmp}
 use Rattle.std.specs.Option.{option_cmp}
-use Rattle.raft_state.specs.declared.ids.LogId.{LogId}
-use Rattle.raft_state.specs.declared.state.RaftState.{RaftState}
-use Rattle.raft_state.specs.Order.{last_id_cmp, next}
-use Rattle.raft_state.specs.Policy.{saturating_add}
-use Rattle.raft_state.specs.Log.{last, at}
-use Rattle.raft_state.specs.Fits.{is_within}
+use Rattle.raft_error.specs.raft_state.declared.ids.LogId.{LogId}
+use Rattle.raft_error.specs.raft_state.declared.state.RaftState.{RaftState}
+use Rattle.raft_error.specs.raft_state.Order.{last_id_cmp, next}
+use Rattle.raft_error.specs.raft_state.Policy.{saturating_add}
+use Rattle.raft_error.specs.raft_state.Log.{last, at}
+use Rattle.raft_error.specs.raft_state.Fits.{is_within}
 use Rattle.raft_progress_entry.specs.declared.entry.ProgressEntry.{ProgressEntry}
 use Rattle.raft_progress_entry.specs.declared.entry.Inflight.{Inflight}
 use Rattle.raft_progress_entry.specs.declared.entry.Inflight.TheVariants as inflight

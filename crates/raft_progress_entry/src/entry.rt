@@ -1,15 +1,15 @@
 //! What a leader knows of a target's log, and what is in flight to it.
 
 ghost use Rattle.std.specs.Prelude.{◌≡◌, ◌+◌, ◌<◌, ◌^◌, is_none, OnOk, IfErr};
-ghost use Rattle.raft_state.specs.Order.{next};
-ghost use Rattle.raft_state.specs.Fits.{is_within};
-ghost use Rattle.raft_state.specs.Log.{last};
+ghost use Rattle.raft_error.specs.raft_state.Order.{next};
+ghost use Rattle.raft_error.specs.raft_state.Fits.{is_within};
+ghost use Rattle.raft_error.specs.raft_state.Log.{last};
 ghost use Rattle.raft_progress_entry.specs.Entry.{logs, with_id, inflight_id, is_my_id, empty, begins_at, acknowledges, remaining};
 ghost use Rattle.raft_progress_entry.specs.Entry.{matched, conflicted, refusals_of_matched, refusals_of_conflicted};
 ghost use Rattle.raft_progress_entry.specs.Entry.{is_log_range_inflight, search_start, before, next_send, sent};
 
 use raft_error::EngineError;
-use raft_state::{DisplayOption, LogId, Node, NodeId, RaftState, next_index, reaches};
+use raft_error::raft_state::{DisplayOption, LogId, Node, NodeId, RaftState, next_index, reaches};
 use std::fmt;
 
 /// The log ids above `prev`, up to and with `last`: `(prev, last]`, as openraft's `LogIdRange`.

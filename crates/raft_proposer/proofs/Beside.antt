@@ -4,14 +4,14 @@ use Rattle.std.proofs.lemmas.List.Kept.{IsStrictlySortedBy-filter}
 use Rattle.std.specs.declared.cmp.Ordering.{Ordering}
 use Rattle.std.specs.declared.cmp.Ordering.TheVariants.{Equal}
 use Rattle.std.specs.Cmp.{IsTotalOrder}
-use Rattle.raft_state.specs.Members.{group_of, voter_ids, learner_ids}
-use Rattle.raft_state.specs.Sorted.{has_id, IsSound}
-use Rattle.raft_state.proofs.Groups.{group_ascends}
+use Rattle.raft_progress.specs.raft_state.Members.{group_of, voter_ids, learner_ids}
+use Rattle.raft_progress.specs.raft_state.Sorted.{has_id, IsSound}
+use Rattle.raft_progress.proofs.raft_state_proofs.Groups.{group_ascends}
 use Rattle.raft_progress.proofs.Memberships.{group_of_ascending, learners_are}
-use Rattle.raft_state.specs.declared.membership.Members.{Members}
+use Rattle.raft_progress.specs.raft_state.declared.membership.Members.{Members}
 use Rattle.std.proofs.Common.{ℕ, Option}
-use Rattle.raft_state.specs.declared.ids.LogId.{LogId}
-use Rattle.raft_state.specs.declared.ids.Vote.{Vote}
+use Rattle.raft_progress.specs.raft_state.declared.ids.LogId.{LogId}
+use Rattle.raft_progress.specs.raft_state.declared.ids.Vote.{Vote}
 use Rattle.raft_progress.specs.Quorum.{ids_of}
 use Rattle.raft_progress.specs.Table.{Table, learners_beside, upgraded}
 use Rattle.raft_proposer.specs.Candidacy.{Candidacy}

@@ -1,7 +1,7 @@
 -- A loop that gives entries their ids, one after another.
 use Rattle.std.proofs.Common.{◌≡◌, ◌∙◌, ap, ℕ, zero, suc, ◌+◌, ◌<◌, List, [], ◌∷◌, ◌++◌, take, drop, set, get_or, length, add-zero, add-one, arith}
-use Rattle.raft_state.specs.declared.config.RaftEntry
-use Rattle.raft_state.specs.declared.ids.LeaderId.{LeaderId}
+use Rattle.raft_progress.specs.raft_state.declared.config.RaftEntry
+use Rattle.raft_progress.specs.raft_state.declared.ids.LeaderId.{LeaderId}
 use Rattle.raft_proposer.specs.Leader.{numbered}
 
 shifted : (n i : ℕ) → n + suc i ≡ (n + 1) + i

@@ -3,8 +3,8 @@ use Rattle.std.proofs.Common.{◌≡◌, ◌∙◌, refl, ap, Bool, true, false,
 use Rattle.std.specs.Prelude.{is_some, if◌then◌else◌}
 use Rattle.std.specs.Ordering.{is_ge, is_eq, is_lt, bool_cmp}
 use Rattle.std.specs.declared.cmp.Ordering.{Ordering}
-use Rattle.raft_state.specs.declared.ids.LogId.{LogId}
-use Rattle.raft_state.specs.declared.ids.Vote.{Vote}
+use Rattle.raft_progress.specs.raft_state.declared.ids.LogId.{LogId}
+use Rattle.raft_progress.specs.raft_state.declared.ids.Vote.{Vote}
 use Rattle.raft_proposer.specs.declared.leader.Leader.{Leader}
 use Rattle.raft_proposer.specs.Leader.{leader_over, leader_of}
 use Rattle.raft_progress.specs.Table.{Table, row_ids, rows_of, table_of, updated, increased, get, is_in, with_value}

@@ -1,7 +1,7 @@
 -- A candidate, as contracts see it.
 use Rattle.std.specs.Prelude.{ℕ, Bool, List, Option}
-use Rattle.raft_state.specs.declared.ids.LogId.{LogId}
-use Rattle.raft_state.specs.declared.ids.Vote.{Vote}
+use Rattle.raft_progress.specs.raft_state.declared.ids.LogId.{LogId}
+use Rattle.raft_progress.specs.raft_state.declared.ids.Vote.{Vote}
 use Rattle.raft_progress.specs.Table.{Table}
 
 -- when it began, its vote, the last id of its log, what each voter has granted, and the learners

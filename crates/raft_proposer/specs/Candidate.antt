@@ -3,12 +3,12 @@ use Rattle.std.specs.Prelude.{ℕ, Bool, true, false, List, [], Option}
 use Rattle.std.specs.Ordering.{bool_cmp}
 use Rattle.std.specs.Option.{option_to_list}
 use Rattle.raft_progress.specs.Table.{table_of, row_ids, granted, updated}
-use Rattle.raft_state.specs.Members.{voter_ids, learner_ids}
+use Rattle.raft_progress.specs.raft_state.Members.{voter_ids, learner_ids}
 use Rattle.raft_proposer.specs.Leader.{leader_of}
 use Rattle.std.specs.declared.cmp.Ordering.{Ordering}
-use Rattle.raft_state.specs.declared.ids.LogId.{LogId}
-use Rattle.raft_state.specs.declared.ids.Vote.{Vote}
-use Rattle.raft_state.specs.declared.membership.Members.{Members}
+use Rattle.raft_progress.specs.raft_state.declared.ids.LogId.{LogId}
+use Rattle.raft_progress.specs.raft_state.declared.ids.Vote.{Vote}
+use Rattle.raft_progress.specs.raft_state.declared.membership.Members.{Members}
 use Rattle.raft_proposer.specs.declared.leader.Leader.{Leader}
 use Rattle.raft_proposer.specs.Candidacy.{Candidacy}
 use Rattle.raft_proposer.specs.Joint.{JointCandidate}

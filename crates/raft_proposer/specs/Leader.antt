@@ -3,19 +3,19 @@ use Rattle.std.specs.Prelude.{ℕ, ◌+◌, Bool, List, [], ◌∷◌, Option, N
 use Rattle.std.specs.Ordering.{is_eq, nat_cmp}
 use Rattle.std.specs.Option.{option_cmp}
 use Rattle.raft_progress.specs.Table.{table_of, granted, increased}
-use Rattle.raft_progress_entry.specs.declared.entry.ProgressEntry.{ProgressEntry}
-use Rattle.raft_state.specs.Members.{voter_ids, learner_ids}
-use Rattle.raft_progress_entry.specs.Entry.{empty}
+use Rattle.raft_progress.specs.raft_progress_entry.declared.entry.ProgressEntry.{ProgressEntry}
+use Rattle.raft_progress.specs.raft_state.Members.{voter_ids, learner_ids}
+use Rattle.raft_progress.specs.raft_progress_entry.Entry.{empty}
 use Rattle.std.specs.declared.cmp.Ordering.{Ordering}
-use Rattle.raft_state.specs.declared.ids.LogId.{LogId}
-use Rattle.raft_state.specs.declared.ids.LeaderId.{LeaderId}
-use Rattle.raft_state.specs.declared.ids.Vote.{Vote}
-use Rattle.raft_state.specs.declared.membership.Members.{Members}
-use Rattle.raft_state.specs.Order.{last_id_cmp, leader_id_cmp, next}
-use Rattle.raft_state.specs.Log.{last}
+use Rattle.raft_progress.specs.raft_state.declared.ids.LogId.{LogId}
+use Rattle.raft_progress.specs.raft_state.declared.ids.LeaderId.{LeaderId}
+use Rattle.raft_progress.specs.raft_state.declared.ids.Vote.{Vote}
+use Rattle.raft_progress.specs.raft_state.declared.membership.Members.{Members}
+use Rattle.raft_progress.specs.raft_state.Order.{last_id_cmp, leader_id_cmp, next}
+use Rattle.raft_progress.specs.raft_state.Log.{last}
 use Rattle.raft_proposer.specs.declared.leader.Leader.{Leader}
 use Rattle.raft_proposer.specs.Joint.{JointLeader}
-use Rattle.raft_state.specs.declared.config.RaftEntry
+use Rattle.raft_progress.specs.raft_state.declared.config.RaftEntry
 
 module _ {NID : Type 0} (cmp : NID → NID → Ordering) where
   -- the id of the no-op entry: the first given id if it is this leader's, else the one after the last

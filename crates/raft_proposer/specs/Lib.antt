@@ -1,3 +1,4 @@
+pub mod raft_progress
 pub mod Candidacy
 pub mod Candidate
 pub mod Granters

@@ -3,10 +3,10 @@
 ghost use Rattle.std.specs.Prelude.{◌≡◌, ◌<◌, ◌^◌, IfOk, IfErr, true, false, []};
 ghost use Rattle.std.specs.Iterator.{YieldsFirst, item_count};
 ghost use Rattle.std.specs.Option.{option_to_list};
-ghost use Rattle.raft_state.specs.Order.{next};
-ghost use Rattle.raft_state.specs.Sorted.{has_id};
+ghost use Rattle.raft_progress.specs.raft_state.Order.{next};
+ghost use Rattle.raft_progress.specs.raft_state.Sorted.{has_id};
 ghost use Rattle.raft_progress.specs.Table.{is_in, learners_beside, row_ids, table_of};
-ghost use Rattle.raft_error.specs.declared.error.EngineError.TheVariants.{UnknownTarget};
+ghost use Rattle.raft_progress.specs.raft_error.declared.error.EngineError.TheVariants.{UnknownTarget};
 ghost use Rattle.raft_proposer.specs.Candidate.{candidate_with, grant_by, is_granted, as_committed};
 ghost use Rattle.raft_proposer.specs.Granters.{granters, granters_left};
 ghost use Rattle.raft_proposer.specs.Leader.{leader_over};
@@ -14,9 +14,11 @@ ghost use Rattle.raft_proposer.specs.Texts.{grant_text};
 ghost use Rattle.std.specs.Fmt.{DisplaysOnOk};
 
 use crate::leader::Leader;
-use raft_error::EngineError;
+use raft_progress::raft_error::EngineError;
+use raft_progress::raft_state::{
+    DisplayOption, Items, LogId, NodeId, RaftTypeConfig, Vote, sorted_ids,
+};
 use raft_progress::{ProgressIter, QuorumSet, VecProgress};
-use raft_state::{DisplayOption, Items, LogId, NodeId, RaftTypeConfig, Vote, sorted_ids};
 use std::alloc::{AllocError, Global};
 use std::fmt;
 use std::marker::Model;

@@ -1,17 +1,19 @@
 //! A node that proposes entries.
 
 ghost use Rattle.std.specs.Prelude.{◌≡◌, ◌+◌, ◌<◌, ◌≤◌, ◌^◌, IfOk, IfErr, OnOk, nat_lt, length, true, false, None, Some};
-ghost use Rattle.raft_state.specs.Order.{next};
-ghost use Rattle.raft_state.specs.Log.{last};
+ghost use Rattle.raft_progress.specs.raft_state.Order.{next};
+ghost use Rattle.raft_progress.specs.raft_state.Log.{last};
 ghost use Rattle.raft_progress.specs.Table.{learners_beside};
-ghost use Rattle.raft_error.specs.declared.error.EngineError.TheVariants.{IndexEnd};
+ghost use Rattle.raft_progress.specs.raft_error.declared.error.EngineError.TheVariants.{IndexEnd};
 ghost use Rattle.raft_proposer.specs.Joint.{u64_max};
 ghost use Rattle.raft_proposer.specs.Leader.{blank_id, leader_over, assigned, last_assigned, numbered, last_quorum_acked, granted_time};
 
-use raft_error::EngineError;
+use raft_progress::raft_error::EngineError;
+use raft_progress::raft_progress_entry::ProgressEntry;
+use raft_progress::raft_state::{
+    LeaderId, LogId, NodeId, RaftEntry, RaftTypeConfig, Vote, next_index,
+};
 use raft_progress::{QuorumSet, VecProgress};
-use raft_progress_entry::ProgressEntry;
-use raft_state::{LeaderId, LogId, NodeId, RaftEntry, RaftTypeConfig, Vote, next_index};
 use std::alloc::{AllocError, Global};
 
 /// A node that proposes entries (Raft paper, section 5.3; openraft's `Leader`).

@@ -1,6 +1,8 @@
 //! Nodes that propose: candidates and leaders.
 #![tactic(auto)]
 
+pub use raft_progress;
+
 pub mod candidate;
 pub mod leader;
 

@@ -6,8 +6,8 @@ use Rattle.std.specs.Option.{ok_or}
 use Rattle.std.specs.Ordering.{nat_cmp}
 use Rattle.raft_state.specs.declared.membership.Members.{Members}
 use Rattle.raft_state.specs.Members.{members_of}
-use Rattle.raft_command.specs.Config.{default_config}
-use Rattle.raft_command.specs.declared.config.EngineConfig.{EngineConfig}
+use Rattle.raft_store.specs.raft_command.Config.{default_config}
+use Rattle.raft_store.specs.raft_command.declared.config.EngineConfig.{EngineConfig}
 use Rattle.raft_schedule.specs.declared.schedule.Language.{Language}
 use Rattle.raft_schedule.specs.declared.schedule.Language.TheVariants.{First, Second}
 use Rattle.raft_schedule.specs.declared.schedule.Place.{Place}

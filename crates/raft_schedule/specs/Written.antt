@@ -3,8 +3,8 @@ use Rattle.std.specs.Prelude.{◌≡◌, ◌≢◌, ℕ, ◌<◌, ◌+◌, ◌^�
 use Rattle.std.specs.Fmt.{decimal}
 use Rattle.std.specs.List.{AllByRecursion, join_with_byte}
 use Rattle.raft_state.specs.declared.policy.SnapshotPolicy.TheVariants.{LogsSinceLast, Never}
-use Rattle.raft_command.specs.Config.{default_config}
-use Rattle.raft_command.specs.declared.config.EngineConfig.{EngineConfig}
+use Rattle.raft_store.specs.raft_command.Config.{default_config}
+use Rattle.raft_store.specs.raft_command.declared.config.EngineConfig.{EngineConfig}
 use Rattle.raft_schedule.specs.declared.event.EventKind.{EventKind}
 use Rattle.raft_schedule.specs.declared.event.EventKind.TheVariants.{Init, Timeout, Stand, Deliver, Propose, Heartbeat, Fail, Snapshot, Built, Purge, Restart, Member, Change, Read, Down, Stop}
 use Rattle.raft_schedule.specs.declared.event.Start.{Start as NodeStart}

@@ -15,9 +15,9 @@ ghost use Rattle.raft_schedule.specs.Reading.{texts, split_texts, Gives, said, s
 use crate::event::{Event, EventKind, Start};
 use crate::step::{Expectation, Fact, Link, MessageKind, Numbered, Step};
 use hex::FromHexError;
-use raft_command::{EngineConfig, time_state};
 use raft_state::{Items, LeaderId, LogId, Membership, ServerState, SnapshotPolicy, Vote};
 use raft_store::Value;
+use raft_store::raft_command::{EngineConfig, time_state};
 use std::alloc::{AllocError, AllocFailed, Global};
 use std::error::Error;
 use std::fmt;

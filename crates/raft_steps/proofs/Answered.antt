@@ -10,10 +10,10 @@ use Rattle.raft_state.specs.declared.ids.LogId.{LogId}
 use Rattle.raft_state.specs.Log.{last}
 use Rattle.raft_state.specs.Order.{next}
 use Rattle.raft_progress_entry.specs.declared.entry.ProgressEntry.{ProgressEntry}
-use Rattle.raft_error.specs.declared.error.EngineError.{EngineError}
-use Rattle.raft_error.specs.declared.error.EngineError.TheVariants.{UnknownTarget}
+use Rattle.raft_progress_entry.specs.raft_error.declared.error.EngineError.{EngineError}
+use Rattle.raft_progress_entry.specs.raft_error.declared.error.EngineError.TheVariants.{UnknownTarget}
 use Rattle.raft_progress_entry.specs.Entry.{refusals_of_matched, conflicted, matched, silenced}
-use Rattle.raft_progress.specs.Table.{get, with_value}
+use Rattle.raft_proposer.specs.raft_progress.Table.{get, with_value}
 use Rattle.raft_command.specs.Replication.{number_of}
 use Rattle.raft_command.specs.declared.config.EngineConfig.{EngineConfig}
 use Rattle.raft_command.specs.declared.replication.ReplicationResult.{ReplicationResult}

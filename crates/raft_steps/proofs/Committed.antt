@@ -3,7 +3,7 @@ use Rattle.std.specs.Prelude.{◌≡◌, Result, Ok, Err, OnOk}
 use Rattle.std.proofs.Common.{sym, subst}
 use Rattle.std.specs.declared.alloc.AllocError.{AllocError}
 use Rattle.raft_state.specs.declared.state.RaftState.{RaftState}
-use Rattle.raft_error.specs.declared.error.EngineError.{EngineError}
+use Rattle.raft_progress_entry.specs.raft_error.declared.error.EngineError.{EngineError}
 use Rattle.raft_command.specs.declared.command.Command.{Command}
 use Rattle.raft_command.specs.Ends.{Settles}
 use Rattle.raft_command.specs.Queue.{Queue}

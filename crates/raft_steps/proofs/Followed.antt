@@ -16,9 +16,9 @@ use Rattle.std.specs.declared.cmp.Ordering.{Ordering}
 use Rattle.raft_state.specs.declared.ids.LogId.{LogId}
 use Rattle.raft_state.specs.declared.ids.Vote.{Vote}
 use Rattle.raft_state.specs.Members.{contains}
-use Rattle.raft_error.specs.Number.{first_refusal}
-use Rattle.raft_error.specs.declared.error.EngineError.{EngineError}
-use Rattle.raft_error.specs.declared.error.EngineError.TheVariants.{Spent, CounterEnd, VoteNotCommitted, OwnVote}
+use Rattle.raft_progress_entry.specs.raft_error.Number.{first_refusal}
+use Rattle.raft_progress_entry.specs.raft_error.declared.error.EngineError.{EngineError}
+use Rattle.raft_progress_entry.specs.raft_error.declared.error.EngineError.TheVariants.{Spent, CounterEnd, VoteNotCommitted, OwnVote}
 use Rattle.raft_command.specs.declared.config.EngineConfig.{EngineConfig}
 use Rattle.raft_steps.specs.Refusals.{is_near_end, is_spent, is_counter_end, rows_in}
 use Rattle.raft_steps.specs.Parts.{Core, Machine, on_core}

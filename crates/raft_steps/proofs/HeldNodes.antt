@@ -10,7 +10,7 @@ use Rattle.std.specs.Ordering.{is_eq}
 use Rattle.std.specs.declared.cmp.Ordering.{Ordering}
 use Rattle.raft_state.specs.declared.membership.Members.{Members}
 use Rattle.raft_state.specs.Members.{is_voter, learner_ids, voter_ids}
-use Rattle.raft_progress.specs.Table.{Table, is_row_of, row_of}
+use Rattle.raft_proposer.specs.raft_progress.Table.{Table, is_row_of, row_of}
 use Rattle.raft_command.specs.declared.config.EngineConfig.{EngineConfig}
 use Rattle.raft_steps.specs.Invariants.{HoldsNodes, IsSound, LeaderFits}
 use Rattle.raft_steps.specs.LeadLaws.{IsTableOf}

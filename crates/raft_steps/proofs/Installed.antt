@@ -9,9 +9,9 @@ use Rattle.raft_state.specs.declared.ids.Vote.{Vote}
 use Rattle.raft_state.specs.Members.{contains}
 use Rattle.raft_state.specs.Order.{leader_id_cmp, vote_cmp}
 use Rattle.raft_state.specs.State.{is_leader, is_leading, by_last_leader}
-use Rattle.raft_error.specs.Number.{first_refusal}
-use Rattle.raft_error.specs.declared.error.EngineError.{EngineError}
-use Rattle.raft_error.specs.declared.error.EngineError.TheVariants.{CounterEnd, OwnVote, Spent, VoteNotCommitted}
+use Rattle.raft_progress_entry.specs.raft_error.Number.{first_refusal}
+use Rattle.raft_progress_entry.specs.raft_error.declared.error.EngineError.{EngineError}
+use Rattle.raft_progress_entry.specs.raft_error.declared.error.EngineError.TheVariants.{CounterEnd, OwnVote, Spent, VoteNotCommitted}
 use Rattle.raft_command.specs.declared.config.EngineConfig.{EngineConfig}
 use Rattle.raft_steps.specs.Refusals.{is_counter_end, is_spent}
 use Rattle.raft_proposer.specs.Leader.{leader_in}

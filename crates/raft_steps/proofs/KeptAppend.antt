@@ -26,7 +26,7 @@ use Rattle.raft_state.specs.State.{accept, accepted, accepted_under, commits, ex
 use Rattle.raft_state.proofs.LogLists.{Has, run_low, run_none_below, last_is, each_map}
 use Rattle.raft_state.proofs.Orders.{le_refl, leader_total, within_of, le_of_not_gt, within_next, and_both, both_and, last_total, lt_of_gt, or_cases, or_left, or_right, nat_lt_is, nat_lt_of}
 use Rattle.raft_state.proofs.StateLaws.{is_found_at, fits_append, fits_below, purged_within, committed_has, cut, grown}
-use Rattle.raft_error.specs.declared.error.EngineError.TheVariants.{IndexEnd, NotFollowing, ContradictsHeld}
+use Rattle.raft_progress_entry.specs.raft_error.declared.error.EngineError.TheVariants.{IndexEnd, NotFollowing, ContradictsHeld}
 use Rattle.raft_command.specs.Push.{with_command}
 use Rattle.raft_command.specs.Queue.{Queue}
 use Rattle.raft_command.specs.declared.command.Command.{Command}

@@ -19,8 +19,8 @@ use Rattle.raft_state.proofs.Orders.{eq_is_le, is_equal, vote_eq_leader}
 use Rattle.raft_state.proofs.LogLists.{each_filter}
 use Rattle.raft_state.proofs.StateLaws.{settled}
 use Rattle.raft_progress_entry.specs.declared.entry.ProgressEntry.{ProgressEntry}
-use Rattle.raft_progress.specs.Quorum.{is_quorum}
-use Rattle.raft_progress.specs.Table.{Table, is_above, greater, greatest, granted, reached, voter_rows, row_of, get, with_value}
+use Rattle.raft_proposer.specs.raft_progress.Quorum.{is_quorum}
+use Rattle.raft_proposer.specs.raft_progress.Table.{Table, is_above, greater, greatest, granted, reached, voter_rows, row_of, get, with_value}
 use Rattle.raft_command.specs.declared.config.EngineConfig.{EngineConfig}
 use Rattle.raft_steps.specs.Parts.{Core, Led, Machine, under, on_leader}
 use Rattle.raft_proposer.specs.Joint.{JointLeader, JointCandidate}

@@ -20,11 +20,11 @@ use Rattle.raft_state.specs.Log.{last}
 use Rattle.raft_state.specs.Members.{voter_ids, learner_ids, contains}
 use Rattle.raft_state.specs.State.{append_membership, extend, empty, is_leader, is_leading, by_last_leader}
 use Rattle.raft_progress_entry.specs.Entry
-use Rattle.raft_progress.specs.Quorum.{is_quorum}
-use Rattle.raft_progress.specs.Table.{row_ids, with_value, get}
-use Rattle.raft_error.specs.Number.{first_refusal}
-use Rattle.raft_error.specs.declared.error.EngineError.{EngineError}
-use Rattle.raft_error.specs.declared.error.EngineError.TheVariants.{IndexEnd, UnknownTarget}
+use Rattle.raft_proposer.specs.raft_progress.Quorum.{is_quorum}
+use Rattle.raft_proposer.specs.raft_progress.Table.{row_ids, with_value, get}
+use Rattle.raft_progress_entry.specs.raft_error.Number.{first_refusal}
+use Rattle.raft_progress_entry.specs.raft_error.declared.error.EngineError.{EngineError}
+use Rattle.raft_progress_entry.specs.raft_error.declared.error.EngineError.TheVariants.{IndexEnd, UnknownTarget}
 use Rattle.raft_state.specs.declared.policy.RejectVoteRequest.{RejectVoteRequest}
 use Rattle.raft_command.specs.declared.command.Command.{Command}
 use Rattle.raft_command.specs.declared.command.Command.TheVariants.{SaveVote, SendVote}

@@ -17,8 +17,8 @@ use Rattle.raft_state.specs.Order.{leader_id_cmp, vote_cmp, next}
 use Rattle.raft_state.specs.Same.{found_is}
 use Rattle.raft_state.specs.State.{commits, has_log_id, is_found}
 use Rattle.raft_state.proofs.StateLaws.{cut, settled}
-use Rattle.raft_error.specs.declared.error.EngineError.{EngineError}
-use Rattle.raft_error.specs.declared.error.EngineError.TheVariants.{CounterEnd, VoteNotCommitted, OwnVote, CommittedNotHeld, Spent}
+use Rattle.raft_progress_entry.specs.raft_error.declared.error.EngineError.{EngineError}
+use Rattle.raft_progress_entry.specs.raft_error.declared.error.EngineError.TheVariants.{CounterEnd, VoteNotCommitted, OwnVote, CommittedNotHeld, Spent}
 use Rattle.raft_command.specs.Queue.{Queue}
 use Rattle.raft_command.specs.declared.command.Command.{Command}
 use Rattle.raft_command.specs.declared.command.Command.TheVariants.{SaveVote}

@@ -11,7 +11,7 @@ use Rattle.raft_state.specs.Members.{voter_ids, learner_ids}
 use Rattle.raft_state.specs.State.{append_membership, extend}
 use Rattle.raft_progress_entry.specs.declared.entry.ProgressEntry.{ProgressEntry}
 use Rattle.raft_progress_entry.specs.Entry.{empty}
-use Rattle.raft_progress.specs.Table.{row_of, kept_row}
+use Rattle.raft_proposer.specs.raft_progress.Table.{row_of, kept_row}
 use Rattle.raft_steps.specs.FollowingHandler.{memberships_in}
 use Rattle.raft_proposer.specs.Leader.{assigned, numbered, last_assigned}
 use Rattle.raft_steps.specs.ReplicationHandler.{rebuild_progresses, is_other, silenced_row, sent_row, initiate_replication, rebuild_replication_streams, append_membership_led}

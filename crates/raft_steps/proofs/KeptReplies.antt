@@ -16,11 +16,11 @@ use Rattle.raft_state.proofs.Orders.{last_total, le_refl}
 use Rattle.raft_progress_entry.specs.declared.entry.ProgressEntry.{ProgressEntry}
 use Rattle.raft_progress_entry.specs.declared.entry.Inflight.{Inflight}
 use Rattle.raft_progress_entry.specs.declared.entry.Inflight.TheVariants as inflight
-use Rattle.raft_error.specs.declared.error.EngineError.{EngineError}
-use Rattle.raft_error.specs.declared.error.EngineError.TheVariants.{UnknownTarget, ForeignInflight, OutsideInflight, LogReverted}
+use Rattle.raft_progress_entry.specs.raft_error.declared.error.EngineError.{EngineError}
+use Rattle.raft_progress_entry.specs.raft_error.declared.error.EngineError.TheVariants.{UnknownTarget, ForeignInflight, OutsideInflight, LogReverted}
 use Rattle.raft_progress_entry.specs.Entry.{carries, begins_at, matched, conflicted, remaining, silenced, next_send, sent, refusals_of_matched, refusals_of_conflicted}
-use Rattle.raft_progress.specs.Quorum.{is_quorum}
-use Rattle.raft_progress.specs.Table.{Table, get, increased, updated}
+use Rattle.raft_proposer.specs.raft_progress.Quorum.{is_quorum}
+use Rattle.raft_proposer.specs.raft_progress.Table.{Table, get, increased, updated}
 use Rattle.raft_command.specs.Replication.{number_of}
 use Rattle.raft_command.specs.declared.config.EngineConfig.{EngineConfig}
 use Rattle.raft_command.specs.declared.replication.ReplicationResult.{ReplicationResult}

@@ -16,9 +16,9 @@ use Rattle.raft_state.specs.Invariants.{IsUnder}
 use Rattle.raft_state.proofs.Orders.{and_both, both_and, is_equal, le_antisymm, le_of_not_gt, le_refl, le_trans, lt_le, lt_of_gt, not_gt_of_le, eq_is_le, eq_swap, leader_total, last_total}
 use Rattle.raft_state.proofs.LogLists.{each_map}
 use Rattle.raft_progress_entry.specs.declared.entry.ProgressEntry.{ProgressEntry}
-use Rattle.raft_progress.specs.Quorum.{is_quorum}
-use Rattle.raft_progress.specs.Table.{Table, get, granted, reached, voter_rows}
-use Rattle.raft_progress.proofs.GrantedLaws.{AtLeast, is_reached, voter_values, granted_of, granted_is_reached, granted_is_greatest}
+use Rattle.raft_proposer.specs.raft_progress.Quorum.{is_quorum}
+use Rattle.raft_proposer.specs.raft_progress.Table.{Table, get, granted, reached, voter_rows}
+use Rattle.raft_proposer.proofs.raft_progress_proofs.GrantedLaws.{AtLeast, is_reached, voter_values, granted_of, granted_is_reached, granted_is_greatest}
 use Rattle.raft_command.specs.declared.command.Command.TheVariants.{ReplicateCommitted}
 use Rattle.raft_command.specs.declared.config.EngineConfig.{EngineConfig}
 use Rattle.raft_steps.specs.Parts.{Core, Led}

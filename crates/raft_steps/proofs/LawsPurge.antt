@@ -14,8 +14,8 @@ use Rattle.raft_state.specs.Log.{at}
 use Rattle.raft_state.specs.Order.{next}
 use Rattle.raft_progress_entry.specs.declared.entry.ProgressEntry.{ProgressEntry}
 use Rattle.raft_progress_entry.specs.Entry.{conflicted, matched, next_send, silenced}
-use Rattle.raft_progress.specs.Quorum.{is_quorum}
-use Rattle.raft_progress.specs.Table.{get}
+use Rattle.raft_proposer.specs.raft_progress.Quorum.{is_quorum}
+use Rattle.raft_proposer.specs.raft_progress.Table.{get}
 use Rattle.raft_command.specs.declared.command.Command.{Command}
 use Rattle.raft_command.specs.declared.config.EngineConfig.{EngineConfig}
 use Rattle.raft_command.specs.declared.replication.ReplicationResult.{ReplicationResult}

@@ -3,7 +3,7 @@ use Rattle.std.specs.Prelude.{◌≡◌, ℕ, true, false, List, [], ◌∷◌, 
 use Rattle.std.specs.Ordering.{nat_cmp}
 use Rattle.raft_state.specs.declared.ids.LogId.{LogId}
 use Rattle.raft_state.specs.declared.membership.Members.{Members}
-use Rattle.raft_progress.specs.Quorum.{is_quorum}
+use Rattle.raft_proposer.specs.raft_progress.Quorum.{is_quorum}
 use Rattle.raft_steps.specs.Conditions.{may_change_membership}
 use Rattle.raft_proposer.specs.Leader.{leader_of, assigned, last_assigned, with_clock, last_quorum_acked, granted_time}
 use Rattle.raft_steps.proofs.Example.{PlainLeader, PlainLed, plain, lid, committed, blank, blanks, core, nodes_of, state, stored, three}

@@ -19,7 +19,7 @@ use Rattle.raft_state.specs.Members.{contains, voter_ids, learner_ids}
 use Rattle.raft_state.specs.State.{by_last_leader, is_leader}
 use Rattle.raft_state.specs.Same.{leader_id_same, both_equal}
 use Rattle.raft_progress_entry.specs.Entry.{empty}
-use Rattle.raft_progress.specs.Table.{rows_of, row_ids}
+use Rattle.raft_proposer.specs.raft_progress.Table.{rows_of, row_ids}
 use Rattle.raft_command.specs.declared.command.Command.{Command}
 use Rattle.raft_command.specs.declared.config.EngineConfig.{EngineConfig}
 use Rattle.raft_command.specs.Queue.{Queue}

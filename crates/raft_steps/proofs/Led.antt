@@ -4,9 +4,9 @@ use Rattle.std.specs.Prelude.{IfSome, ◌==◌, ◌&&◌, is_none}
 use Rattle.std.proofs.lemmas.Bool.Decides.{nat_tests}
 use Rattle.raft_state.specs.Order.{next}
 use Rattle.raft_state.specs.declared.state.RaftState.{RaftState}
-use Rattle.raft_progress.specs.Quorum.{is_quorum}
-use Rattle.raft_progress.specs.Table.{get}
-use Rattle.raft_error.specs.declared.error.EngineError.TheVariants.{UnknownTarget, IndexEnd}
+use Rattle.raft_proposer.specs.raft_progress.Quorum.{is_quorum}
+use Rattle.raft_proposer.specs.raft_progress.Table.{get}
+use Rattle.raft_progress_entry.specs.raft_error.declared.error.EngineError.TheVariants.{UnknownTarget, IndexEnd}
 use Rattle.raft_steps.specs.Refusals.{refusals_of_grant}
 use Rattle.raft_proposer.specs.Joint.{u64_max}
 use Rattle.raft_steps.specs.Invariants.{IsSound, CandidateFits}

@@ -1,4 +1,5 @@
 -- What is known of a call that isn't refused
+pub use Rattle.raft_proposer.proofs as raft_proposer_proofs
 pub mod Unrefused  -- what is known of a call that is not refused
 pub mod Room  -- if a no-op entry would be proposed, the refusals leave an index for it
 pub mod Counted  -- the values of numbers that aren't near their end

@@ -8,8 +8,8 @@ use Rattle.raft_state.specs.declared.ids.LogId.{LogId}
 use Rattle.raft_state.specs.Order.{last_id_cmp}
 use Rattle.raft_progress_entry.specs.declared.entry.ProgressEntry.{ProgressEntry}
 use Rattle.raft_progress_entry.specs.Entry.{next_send, sent}
-use Rattle.raft_progress.specs.Quorum.{is_quorum}
-use Rattle.raft_progress.specs.Table.{get, holders, is_row_of, measures, row_of, with_value}
+use Rattle.raft_proposer.specs.raft_progress.Quorum.{is_quorum}
+use Rattle.raft_proposer.specs.raft_progress.Table.{get, holders, is_row_of, measures, row_of, with_value}
 use Rattle.raft_command.specs.Queue.{queued}
 use Rattle.raft_command.specs.declared.config.EngineConfig.{EngineConfig}
 use Rattle.raft_steps.specs.Laws.{CommitsLatest, committable, is_of, later}

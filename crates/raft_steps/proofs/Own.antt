@@ -10,9 +10,9 @@ use Rattle.raft_state.specs.Order.{last_id_cmp}
 use Rattle.raft_state.proofs.Orders.{last_total}
 use Rattle.raft_progress_entry.specs.declared.entry.ProgressEntry.{ProgressEntry}
 use Rattle.raft_progress_entry.specs.declared.entry.Inflight.TheVariants as inflight
-use Rattle.raft_progress.specs.Table.{Table, get, updated}
-use Rattle.raft_progress.specs.Updates.{Rises}
-use Rattle.raft_progress.specs.Quorum.{is_quorum}
+use Rattle.raft_proposer.specs.raft_progress.Table.{Table, get, updated}
+use Rattle.raft_proposer.specs.raft_progress.Updates.{Rises}
+use Rattle.raft_proposer.specs.raft_progress.Quorum.{is_quorum}
 use Rattle.raft_command.specs.declared.config.EngineConfig.{EngineConfig}
 use Rattle.raft_proposer.specs.Leader.{granted_id}
 use Rattle.raft_steps.specs.Parts.{Core, Led}

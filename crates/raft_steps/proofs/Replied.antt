@@ -12,11 +12,11 @@ use Rattle.raft_state.proofs.Orders.{last_total, le_refl, le_trans, within_le, a
 use Rattle.raft_progress_entry.specs.declared.entry.ProgressEntry.{ProgressEntry}
 use Rattle.raft_progress_entry.specs.declared.entry.Inflight.{Inflight}
 use Rattle.raft_progress_entry.specs.declared.entry.Inflight.TheVariants as inflight
-use Rattle.raft_error.specs.declared.error.EngineError.{EngineError}
-use Rattle.raft_error.specs.declared.error.EngineError.TheVariants.{UnknownTarget}
+use Rattle.raft_progress_entry.specs.raft_error.declared.error.EngineError.{EngineError}
+use Rattle.raft_progress_entry.specs.raft_error.declared.error.EngineError.TheVariants.{UnknownTarget}
 use Rattle.raft_progress_entry.specs.Entry.{acknowledges, refusals_of_matched, carries, matched, sent}
-use Rattle.raft_progress.specs.Table.{Table, get}
-use Rattle.raft_progress.specs.Updates.{Rises}
+use Rattle.raft_proposer.specs.raft_progress.Table.{Table, get}
+use Rattle.raft_proposer.specs.raft_progress.Updates.{Rises}
 use Rattle.raft_steps.specs.Invariants.{inflight_from}
 use Rattle.raft_proposer.specs.Joint.{JointLeader}
 use Rattle.raft_steps.specs.ReplyRefusals.{refusals_of_acknowledged, refusals_of_entry}

@@ -3,7 +3,7 @@ use Rattle.std.specs.Prelude.{◌≡◌, ℕ, ◌-◌, true, List, [], ◌∷◌
 use Rattle.std.specs.Ordering.{nat_cmp}
 use Rattle.raft_state.specs.declared.ids.LogId.{LogId}
 use Rattle.raft_state.specs.State.{empty}
-use Rattle.raft_error.specs.declared.error.EngineError.TheVariants.{ForeignInflight, OutsideInflight, UnknownTarget, CounterEnd}
+use Rattle.raft_progress_entry.specs.raft_error.declared.error.EngineError.TheVariants.{ForeignInflight, OutsideInflight, UnknownTarget, CounterEnd}
 use Rattle.raft_progress_entry.specs.declared.entry.ProgressEntry.{ProgressEntry}
 use Rattle.raft_progress_entry.specs.declared.entry.Inflight.TheVariants as inflight
 use Rattle.raft_progress_entry.specs.Entry as entry

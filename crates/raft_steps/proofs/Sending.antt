@@ -13,7 +13,7 @@ use Rattle.raft_state.specs.Members.{voter_ids, learner_ids}
 use Rattle.raft_progress_entry.specs.declared.entry.ProgressEntry.{ProgressEntry}
 use Rattle.raft_progress_entry.specs.declared.entry.Inflight.{Inflight}
 use Rattle.raft_progress_entry.specs.Entry.{empty, sent, silenced, next_send}
-use Rattle.raft_progress.specs.Table.{measures, kept_row, rows_of, is_row_of}
+use Rattle.raft_proposer.specs.raft_progress.Table.{measures, kept_row, rows_of, is_row_of}
 use Rattle.raft_command.specs.declared.config.EngineConfig.{EngineConfig}
 use Rattle.raft_command.specs.declared.command.Command.{Command}
 use Rattle.raft_command.specs.declared.command.Command.TheVariants.{RebuildReplicationStreams}

@@ -18,8 +18,8 @@ use Rattle.raft_state.specs.Order.{last_id_cmp, leader_id_cmp, next}
 use Rattle.raft_state.specs.State.{by_last_leader, is_found, is_leader}
 use Rattle.raft_state.proofs.LogLists.{Has, each_map}
 use Rattle.raft_state.proofs.StateLaws.{is_found_at}
-use Rattle.raft_progress.specs.Quorum.{is_quorum}
-use Rattle.raft_progress.specs.Table.{get, row_of, with_value}
+use Rattle.raft_proposer.specs.raft_progress.Quorum.{is_quorum}
+use Rattle.raft_proposer.specs.raft_progress.Table.{get, row_of, with_value}
 use Rattle.raft_progress_entry.specs.declared.entry.ProgressEntry.{ProgressEntry}
 use Rattle.raft_command.specs.declared.config.EngineConfig.{EngineConfig}
 use Rattle.raft_steps.specs.Refusals.{is_counter_end, is_counter_end_among, refusals_of_counter, refusals_of_lead, refusals_of_spent}

@@ -3,7 +3,7 @@ use Rattle.std.specs.Prelude.{◌≡◌, ℕ, true, false, [], ◌∷◌, None, 
 use Rattle.std.specs.Ordering.{nat_cmp}
 use Rattle.raft_state.specs.declared.state.ServerState.TheVariants as role
 use Rattle.raft_state.specs.declared.policy.RejectVoteRequest.TheVariants.{ByVote}
-use Rattle.raft_error.specs.declared.error.EngineError.TheVariants.{TermEnd}
+use Rattle.raft_progress_entry.specs.raft_error.declared.error.EngineError.TheVariants.{TermEnd}
 use Rattle.raft_command.specs.declared.command.Command.TheVariants.{SaveVote, QuitLeader}
 use Rattle.raft_steps.specs.Refusals.{refusals_of_elect}
 use Rattle.raft_proposer.specs.Candidate.{candidate_of}

@@ -1,7 +1,7 @@
 -- The calls of an engine: its first entry, elections, and the replies to its vote requests.
 use Rattle.std.specs.Prelude.{ℕ, ◌+◌, Bool, false, not, ◌&&◌, [], ◌∷◌, Option, None, Some, if◌then◌else◌}
 use Rattle.std.specs.Ordering.{is_gt}
-use Rattle.raft_progress.specs.Quorum.{is_quorum}
+use Rattle.raft_proposer.specs.raft_progress.Quorum.{is_quorum}
 use Rattle.raft_command.specs.declared.message.VoteResponse.{VoteResponse}
 use Rattle.raft_command.specs.declared.command.Command.TheVariants.{SendVote}
 use Rattle.raft_steps.specs.ServerStateHandler.{update_role}

@@ -10,9 +10,9 @@ use Rattle.raft_state.specs.declared.state.RaftState.{RaftState}
 use Rattle.raft_state.specs.Fits.{is_within, is_below}
 use Rattle.raft_state.specs.Order.{next}
 use Rattle.raft_state.specs.State.{accepted_under, has_log_id}
-use Rattle.raft_error.specs.Number.{first_refusal}
-use Rattle.raft_error.specs.declared.error.EngineError.{EngineError}
-use Rattle.raft_error.specs.declared.error.EngineError.TheVariants.{IndexEnd, SnapshotUnfit}
+use Rattle.raft_progress_entry.specs.raft_error.Number.{first_refusal}
+use Rattle.raft_progress_entry.specs.raft_error.declared.error.EngineError.{EngineError}
+use Rattle.raft_progress_entry.specs.raft_error.declared.error.EngineError.TheVariants.{IndexEnd, SnapshotUnfit}
 use Rattle.raft_command.specs.declared.config.EngineConfig.{EngineConfig}
 use Rattle.raft_steps.specs.Installs.{installs, has_other_at}
 use Rattle.raft_steps.specs.Parts.{Core, Machine}

@@ -1,7 +1,7 @@
 -- What holds of an engine between any two calls.
 use Rattle.std.specs.Prelude.{◌≡◌, ◌≤◌, true, false, length, None, List, ◌++◌, Option, IfSome}
 use Rattle.std.specs.Ordering.{is_eq, is_le}
-use Rattle.raft_progress.specs.Table.{Table, row_ids}
+use Rattle.raft_proposer.specs.raft_progress.Table.{Table, row_ids}
 use Rattle.raft_progress_entry.specs.declared.entry.ProgressEntry.{ProgressEntry}
 use Rattle.raft_state.specs.Members.{voter_ids, learner_ids, contains}
 use Rattle.raft_state.specs.Fits.{fits}

@@ -8,8 +8,8 @@ use Rattle.raft_state.specs.declared.ids.LogId.{LogId}
 use Rattle.raft_state.specs.declared.ids.Vote.{Vote}
 use Rattle.raft_state.specs.Order.{leader_id_cmp, last_id_cmp, vote_cmp, next}
 use Rattle.raft_progress_entry.specs.declared.entry.ProgressEntry.{ProgressEntry}
-use Rattle.raft_progress.specs.Quorum.{is_quorum}
-use Rattle.raft_progress.specs.Table.{get, reached, voter_rows}
+use Rattle.raft_proposer.specs.raft_progress.Quorum.{is_quorum}
+use Rattle.raft_proposer.specs.raft_progress.Table.{get, reached, voter_rows}
 use Rattle.raft_command.specs.declared.command.Command.{Command}
 use Rattle.raft_command.specs.declared.command.Command.TheVariants as command
 use Rattle.raft_command.specs.declared.config.EngineConfig.{EngineConfig}

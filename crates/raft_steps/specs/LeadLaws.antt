@@ -12,7 +12,7 @@ use Rattle.raft_state.specs.State.{is_leader}
 use Rattle.raft_command.specs.declared.command.Command.{Command}
 use Rattle.raft_command.specs.declared.command.Command.TheVariants as command
 use Rattle.raft_command.specs.declared.config.EngineConfig.{EngineConfig}
-use Rattle.raft_progress.specs.Table.{Table, is_in, voter_rows}
+use Rattle.raft_proposer.specs.raft_progress.Table.{Table, is_in, voter_rows}
 use Rattle.raft_steps.specs.Invariants.{IsSound, IsSoundLed}
 use Rattle.raft_steps.specs.Laws.{QueuesOnly}
 use Rattle.raft_steps.specs.LeaderHandler.{read_log_id}

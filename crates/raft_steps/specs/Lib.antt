@@ -1,5 +1,7 @@
 -- Steps are over the types of an application (`RaftTypeConfig`): C itself, NID node ids, N the data of a node, E entries,
 -- D what a client proposes, R its answer, S the data of a snapshot.
+pub mod raft_command
+pub mod raft_proposer
 pub mod Accepts
 pub mod CallLaws
 pub mod Commit

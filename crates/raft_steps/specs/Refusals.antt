@@ -2,16 +2,16 @@
 use Rattle.std.specs.Prelude.{ℕ, ◌+◌, ◌-◌, ◌==◌, nat_lt, nat_le, Bool, false, not, ◌&&◌, ◌||◌, List, [], ◌∷◌, Option, None, Some, is_none, if◌then◌else◌}
 use Rattle.std.specs.Ordering.{is_lt}
 use Rattle.std.specs.Option.{option_or}
-use Rattle.raft_progress.specs.Table.{get}
-use Rattle.raft_progress.specs.Quorum.{is_quorum}
+use Rattle.raft_proposer.specs.raft_progress.Table.{get}
+use Rattle.raft_proposer.specs.raft_progress.Quorum.{is_quorum}
 use Rattle.raft_progress_entry.specs.declared.entry.ProgressEntry.{ProgressEntry}
 use Rattle.raft_state.specs.Members.{is_voter}
 use Rattle.raft_state.specs.Fits.{is_within}
 use Rattle.std.specs.List.{list_any}
 use Rattle.raft_state.specs.State.{is_initialized}
-use Rattle.raft_error.specs.declared.error.EngineError.{EngineError}
-use Rattle.raft_error.specs.declared.error.EngineError.TheVariants.{NotAllowed, NoMembership, NotInMembers, TermEnd, IndexEnd, CounterEnd, UnknownTarget, OutsideInflight, Spent}
-use Rattle.raft_error.specs.Number.{first_refusal}
+use Rattle.raft_progress_entry.specs.raft_error.declared.error.EngineError.{EngineError}
+use Rattle.raft_progress_entry.specs.raft_error.declared.error.EngineError.TheVariants.{NotAllowed, NoMembership, NotInMembers, TermEnd, IndexEnd, CounterEnd, UnknownTarget, OutsideInflight, Spent}
+use Rattle.raft_progress_entry.specs.raft_error.Number.{first_refusal}
 use Rattle.raft_command.specs.declared.message.VoteResponse.{VoteResponse}
 use Rattle.raft_proposer.specs.Candidate.{grant_by, is_granted}
 use Rattle.raft_steps.specs.Room.{leads_anew, is_full}

@@ -2,8 +2,8 @@
 use Rattle.std.specs.Prelude.{Bool, false, not, List, [], ◌∷◌, Option, None, Some, Result, Ok, Err, map, filter, flat_map, if◌then◌else◌}
 use Rattle.std.specs.Ordering.{is_eq, is_ge, nat_cmp}
 use Rattle.std.specs.Option.{option_cmp}
-use Rattle.raft_progress.specs.Table.{get, updated, upgraded}
-use Rattle.raft_progress.specs.Quorum.{is_quorum}
+use Rattle.raft_proposer.specs.raft_progress.Table.{get, updated, upgraded}
+use Rattle.raft_proposer.specs.raft_progress.Quorum.{is_quorum}
 use Rattle.raft_progress_entry.specs.declared.entry.ProgressEntry.{ProgressEntry}
 use Rattle.raft_state.specs.Members.{voter_ids, learner_ids}
 use Rattle.raft_state.specs.State.{append_membership}

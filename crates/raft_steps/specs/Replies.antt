@@ -3,7 +3,7 @@ use Rattle.std.specs.Prelude.{ℕ, false, Option, None, Some, Result, Ok, Err}
 use Rattle.std.specs.declared.cmp.Ordering.{Ordering}
 use Rattle.raft_state.specs.declared.ids.LogId.{LogId}
 use Rattle.raft_progress_entry.specs.Entry.{next_send, sent, silenced, matched, conflicted}
-use Rattle.raft_progress.specs.Table.{get}
+use Rattle.raft_proposer.specs.raft_progress.Table.{get}
 use Rattle.raft_progress_entry.specs.declared.entry.ProgressEntry.{ProgressEntry}
 use Rattle.raft_command.specs.Queue.{queued}
 use Rattle.raft_command.specs.Replication.{number_of}

@@ -7,13 +7,13 @@ use Rattle.raft_state.specs.declared.ids.LogId.{LogId}
 use Rattle.raft_state.specs.declared.state.RaftState.{RaftState}
 use Rattle.raft_state.specs.Fits.{fits}
 use Rattle.raft_progress_entry.specs.Entry.{refusals_of_matched, refusals_of_conflicted}
-use Rattle.raft_error.specs.Number.{first_refusal}
-use Rattle.raft_progress.specs.Table.{get}
+use Rattle.raft_progress_entry.specs.raft_error.Number.{first_refusal}
+use Rattle.raft_proposer.specs.raft_progress.Table.{get}
 use Rattle.raft_progress_entry.specs.declared.entry.Inflight.{Inflight}
 use Rattle.raft_progress_entry.specs.declared.entry.Inflight.TheVariants as inflight
 use Rattle.raft_progress_entry.specs.declared.entry.ProgressEntry.{ProgressEntry}
-use Rattle.raft_error.specs.declared.error.EngineError.{EngineError}
-use Rattle.raft_error.specs.declared.error.EngineError.TheVariants.{UnknownTarget, ForeignInflight, OutsideInflight}
+use Rattle.raft_progress_entry.specs.raft_error.declared.error.EngineError.{EngineError}
+use Rattle.raft_progress_entry.specs.raft_error.declared.error.EngineError.TheVariants.{UnknownTarget, ForeignInflight, OutsideInflight}
 use Rattle.raft_command.specs.Replication.{number_of}
 use Rattle.raft_command.specs.declared.config.EngineConfig.{EngineConfig}
 use Rattle.raft_command.specs.declared.replication.ReplicationResult.{ReplicationResult}

@@ -11,9 +11,9 @@ use Rattle.raft_state.specs.Consecutive.{follows_on}
 use Rattle.raft_state.specs.Log.{at}
 use Rattle.raft_state.specs.Order.{leader_id_cmp, next}
 use Rattle.raft_state.specs.State.{accepted_under, commits, has_log_id, is_found}
-use Rattle.raft_error.specs.Number.{first_refusal}
-use Rattle.raft_error.specs.declared.error.EngineError.{EngineError}
-use Rattle.raft_error.specs.declared.error.EngineError.TheVariants.{IndexEnd, CounterEnd, VoteNotCommitted, OwnVote, NotFollowing, ContradictsHeld, CommittedNotHeld, Spent}
+use Rattle.raft_progress_entry.specs.raft_error.Number.{first_refusal}
+use Rattle.raft_progress_entry.specs.raft_error.declared.error.EngineError.{EngineError}
+use Rattle.raft_progress_entry.specs.raft_error.declared.error.EngineError.TheVariants.{IndexEnd, CounterEnd, VoteNotCommitted, OwnVote, NotFollowing, ContradictsHeld, CommittedNotHeld, Spent}
 use Rattle.raft_command.specs.declared.config.EngineConfig.{EngineConfig}
 use Rattle.raft_command.specs.declared.message.VoteRequest.{VoteRequest}
 use Rattle.raft_steps.specs.Refusals.{is_at_end, is_near_end, is_spent, is_counter_end, refusals_of_counter, blank_is_at_end}

@@ -11,9 +11,9 @@ use Rattle.raft_state.specs.Log.{last}
 use Rattle.raft_state.specs.Members.{is_voter}
 use Rattle.raft_state.specs.Order.{last_id_cmp}
 use Rattle.raft_state.specs.State.{is_leader}
-use Rattle.raft_error.specs.Number.{first_refusal}
-use Rattle.raft_error.specs.declared.error.EngineError.{EngineError}
-use Rattle.raft_error.specs.declared.error.EngineError.TheVariants.{IndexEnd}
+use Rattle.raft_progress_entry.specs.raft_error.Number.{first_refusal}
+use Rattle.raft_progress_entry.specs.raft_error.declared.error.EngineError.{EngineError}
+use Rattle.raft_progress_entry.specs.raft_error.declared.error.EngineError.TheVariants.{IndexEnd}
 use Rattle.raft_command.specs.declared.config.EngineConfig.{EngineConfig}
 use Rattle.raft_steps.specs.Refusals.{refusals_of_spent, refusals_of_counter, refusals_of_lead, blank_is_at_end}
 use Rattle.raft_steps.specs.Parts.{Led, Machine, with_state, on_core, on_leader}

@@ -2,6 +2,10 @@
 //! their contracts, and `plain` is an application for computed examples.
 #![tactic(auto)]
 
+pub use raft_command;
+pub use raft_proposer;
+pub use raft_proposer::raft_progress;
+
 pub mod install_laws;
 pub mod laws;
 pub mod lead_laws;

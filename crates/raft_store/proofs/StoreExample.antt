@@ -4,7 +4,7 @@ use Rattle.raft_state.specs.declared.ids.LogId.{LogId}
 use Rattle.raft_state.specs.declared.ids.Vote.{Vote}
 use Rattle.raft_state.specs.declared.membership.Members.{Members}
 use Rattle.raft_state.specs.declared.membership.SnapshotMeta.{SnapshotMeta}
-use Rattle.raft_command.specs.declared.command.Command.TheVariants.{AppendInputEntries, SaveVote, SendVote, RebuildReplicationStreams, BecomeLeader, ReplicateCommitted, Commit}
+use Rattle.raft_steps.specs.raft_command.declared.command.Command.TheVariants.{AppendInputEntries, SaveVote, SendVote, RebuildReplicationStreams, BecomeLeader, ReplicateCommitted, Commit}
 use Rattle.raft_store.specs.declared.entry.Entry.{Entry}
 use Rattle.raft_store.specs.declared.entry.Payload.TheVariants.{Blank, Membership}
 use Rattle.raft_store.specs.Entries.{entry_meaning}

@@ -1,7 +1,7 @@
 -- Computed examples of stores: what they keep of commands, and their whole logs.
 use Rattle.std.specs.Prelude.{◌≡◌, false, true, [], ◌∷◌, Some, refl}
 use Rattle.std.specs.Ordering.{nat_cmp}
-use Rattle.raft_command.specs.declared.command.Command.TheVariants.{AppendInputEntries, DeleteConflictLog, PurgeLog}
+use Rattle.raft_steps.specs.raft_command.declared.command.Command.TheVariants.{AppendInputEntries, DeleteConflictLog, PurgeLog}
 use Rattle.raft_store.specs.Entries.{entry_meaning}
 use Rattle.raft_store.specs.Store.{holds, whole, whole_upto, due}
 use Rattle.raft_store.proofs.StoreExample.{alone, first, blank, holding, keeping, after, snapshot, conflicting, unpurged}

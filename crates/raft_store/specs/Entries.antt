@@ -5,7 +5,7 @@ use Rattle.std.specs.Cmp.Lexicographic.{pointwise}
 use Rattle.raft_state.specs.Order.{log_id_cmp}
 use Rattle.raft_state.specs.declared.config.RaftEntry
 use Rattle.raft_state.specs.declared.membership.Members.{Members}
-use Rattle.raft_command.specs.Equality.{membership_eq}
+use Rattle.raft_steps.specs.raft_command.Equality.{membership_eq}
 use Rattle.raft_store.specs.declared.entry.Entry.{Entry}
 use Rattle.raft_store.specs.declared.entry.Payload.{Payload}
 use Rattle.raft_store.specs.declared.entry.Payload.TheVariants as payload

@@ -1,3 +1,4 @@
+pub use Rattle.raft_steps.specs.raft_command
 pub mod Built
 pub mod Entries
 pub mod LeaderLogs

@@ -12,10 +12,10 @@ use Rattle.raft_state.specs.declared.membership.SnapshotMeta.{SnapshotMeta}
 use Rattle.raft_state.specs.Log.{at}
 use Rattle.raft_state.specs.Members.{no_members}
 use Rattle.raft_state.specs.State.{is_found}
-use Rattle.raft_command.specs.declared.command.Command.{Command}
-use Rattle.raft_command.specs.declared.command.Command.TheVariants.{SaveVote, AppendInputEntries, DeleteConflictLog, PurgeLog, Commit, StateMachine, BecomeLeader, QuitLeader, ReplicateCommitted, Replicate, RebuildReplicationStreams, SendVote, Respond}
-use Rattle.raft_command.specs.declared.sm.CommandPayload.{CommandPayload}
-use Rattle.raft_command.specs.declared.sm.CommandPayload.TheVariants.{BuildSnapshot, GetSnapshot, BeginReceivingSnapshot, InstallFullSnapshot, Apply}
+use Rattle.raft_steps.specs.raft_command.declared.command.Command.{Command}
+use Rattle.raft_steps.specs.raft_command.declared.command.Command.TheVariants.{SaveVote, AppendInputEntries, DeleteConflictLog, PurgeLog, Commit, StateMachine, BecomeLeader, QuitLeader, ReplicateCommitted, Replicate, RebuildReplicationStreams, SendVote, Respond}
+use Rattle.raft_steps.specs.raft_command.declared.sm.CommandPayload.{CommandPayload}
+use Rattle.raft_steps.specs.raft_command.declared.sm.CommandPayload.TheVariants.{BuildSnapshot, GetSnapshot, BeginReceivingSnapshot, InstallFullSnapshot, Apply}
 
 -- a vote; the entries by index, ascending; the last purged id; a snapshot with its entries from index 0 on; the saved
 -- committed id; the entries that the state machine has applied, from index 0 on

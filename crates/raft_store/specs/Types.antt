@@ -1,11 +1,11 @@
 -- The engine's types in the world's configuration.
 use Rattle.std.specs.Prelude.{ℕ, Bool, List}
-use Rattle.raft_command.specs.declared.command.Command.{Command}
-use Rattle.raft_command.specs.declared.config.EngineConfig.{EngineConfig}
-use Rattle.raft_command.specs.declared.message.Snapshot.{Snapshot}
-use Rattle.raft_command.specs.declared.sm.CommandPayload.{CommandPayload}
+use Rattle.raft_steps.specs.raft_command.declared.command.Command.{Command}
+use Rattle.raft_steps.specs.raft_command.declared.config.EngineConfig.{EngineConfig}
+use Rattle.raft_steps.specs.raft_command.declared.message.Snapshot.{Snapshot}
+use Rattle.raft_steps.specs.raft_command.declared.sm.CommandPayload.{CommandPayload}
 use Rattle.raft_steps.specs.Parts.{Machine}
-use Rattle.raft_proposer.specs.Joint.{JointLeader, JointCandidate}
+use Rattle.raft_steps.specs.raft_proposer.Joint.{JointLeader, JointCandidate}
 use Rattle.raft_store.specs.declared.config.WorldConfig.{WorldConfig}
 use Rattle.raft_store.specs.declared.entry.Entry.{Entry}
 use Rattle.raft_store.specs.Store.{Store}

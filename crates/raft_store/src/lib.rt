@@ -1,6 +1,8 @@
 //! What a node keeps when it stops, and how each command changes it.
 #![tactic(auto)]
 
+pub use raft_steps::raft_command;
+
 mod built;
 mod config;
 mod entry;

@@ -16,9 +16,9 @@ use crate::built::meta_of;
 use crate::config::WorldConfig;
 use crate::entry::{Entry, copy_entries};
 use crate::ring::Ring;
-use raft_command::sm::{self, CommandPayload};
-use raft_command::{Command, Snapshot};
 use raft_state::{Items, LogId, SnapshotMeta, StoredMembership, Text, Vote, next_index};
+use raft_steps::raft_command::sm::{self, CommandPayload};
+use raft_steps::raft_command::{Command, Snapshot};
 use std::alloc::{AllocError, Global};
 use std::marker::Model;
 

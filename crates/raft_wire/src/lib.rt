@@ -1,6 +1,8 @@
 //! Messages between servers, and the records of a server's log, as bytes.
 #![tactic(auto)]
 
+pub use raft_calls;
+
 mod basic;
 mod entries;
 mod packet;

@@ -24,7 +24,7 @@ use Rattle.raft_world.specs.declared.agreement.Agreement.TheVariants.{Agree, Dif
 use Rattle.raft_world.specs.Agreed.{Checks}
 use Rattle.raft_world.specs.Reported.{Reported}
 use Rattle.raft_world.specs.Worlds.{Applies, IsMade, IsWorldOfRun, IsSpentOf, ReportAgrees, WorldView, refusals_of_apply, events_in, reported, run_in}
-use Rattle.proof_deeds.proofs.Proved.{after_agrees, after_resting, run_may_keep}
+use Rattle.proof_clients.proofs.proof_deeds_proofs.Proved.{after_agrees, after_resting, run_may_keep}
 
 -- unless memory ran out, the nodes of a world rest
 pub world_resting : (w : WorldView) → IsWorldOfRun w → w.spent ≡ false → AllResting w.history.net.nodes

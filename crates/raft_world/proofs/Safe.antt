@@ -2,10 +2,10 @@
 use Rattle.std.specs.Prelude.{List, take}
 use Rattle.raft_schedule.specs.declared.event.Event.{Event}
 use Rattle.raft_node.specs.declared.given.Given.{Given}
-use Rattle.proof_deeds.proofs.DecidedRuns.{run_decides_chosen}
-use Rattle.proof_deeds.proofs.Outcomes.{world_fits}
-use Rattle.proof_deeds.proofs.OwnAnswers.{run_reads_own}
-use Rattle.proof_deeds.proofs.Proved.{after_mirrored, after_resting, run_agrees, run_appends_only, run_applied, run_applies_decided, run_begins, run_complete, run_ends, run_executes_decided, run_keeps_chosen, run_matches, run_reads_see, run_stands_above}
+use Rattle.proof_clients.proofs.proof_deeds_proofs.DecidedRuns.{run_decides_chosen}
+use Rattle.proof_clients.proofs.proof_deeds_proofs.Outcomes.{world_fits}
+use Rattle.proof_clients.proofs.proof_deeds_proofs.OwnAnswers.{run_reads_own}
+use Rattle.proof_clients.proofs.proof_deeds_proofs.Proved.{after_mirrored, after_resting, run_agrees, run_appends_only, run_applied, run_applies_decided, run_begins, run_complete, run_ends, run_executes_decided, run_keeps_chosen, run_matches, run_reads_see, run_stands_above}
 use Rattle.proof_clients.proofs.LearnersKeep.{learners_keep_groups}
 use Rattle.proof_clients.proofs.OneLogs.{applied_one_log, decided_one_log, decided_stay}
 use Rattle.proof_clients.proofs.OnlyProposed.{only_proposed}

@@ -9,7 +9,7 @@ use Rattle.raft_node.specs.Net.{Net}
 use Rattle.raft_node.specs.Runs.{run, start, whole_logs, world_after}
 use Rattle.raft_node.specs.Safety.{Agrees, AppendsOnly, AppliedAgree, AppliedAreDecided, AtEachMoment, BeginsFirst, DecidedEnd, ExecutedAreDecided, IsComplete, Matches, Mirrored, ReadsSee, StandsAbove}
 use Rattle.raft_store.specs.declared.entry.Entry.{Entry}
-use Rattle.proof_deeds.specs.OwnReads.{ReadsSeeOwn}
+use Rattle.proof_clients.specs.proof_deeds.OwnReads.{ReadsSeeOwn}
 use Rattle.proof_clients.specs.Appends.{AppendsNew, AppendsOnce, AppliedBefore, ProposalsAppend}
 use Rattle.proof_clients.specs.Learners.{LearnersKeepGroups}
 use Rattle.proof_clients.specs.OneLog.{AppliedAreOne, DecidedAreOne, DecidedStay}

@@ -1,6 +1,6 @@
 use Rattle.std.proofs.Common.{◌∙◌, ap}
-use Rattle.raft_proposer.specs.Leader.{leader_in}
-use Rattle.raft_proposer.proofs.Beside.{leader_in_is}
+use Rattle.raft_steps.specs.raft_proposer.Leader.{leader_in}
+use Rattle.raft_steps.proofs.raft_proposer_proofs.Beside.{leader_in_is}
 use Rattle.raft_handler_vote.proofs.vote_handler.new_leader.Goals as goal
 
 pub returns : goal.returns
