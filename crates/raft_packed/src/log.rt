@@ -1,6 +1,6 @@
 //! A log's entries by index.
 
-ghost use Rattle.std.specs.Prelude.{◌≡◌, ◌≤◌, ◌+◌, IfOk, OnOk, filter, fold, nat_lt};
+ghost use Rattle.std.specs.Prelude.{◌≡◌, ◌≤◌, ◌+◌, IfOk, IsTrue, OnOk, filter, fold, nat_lt};
 ghost use Rattle.raft_state.specs.Order.{next};
 ghost use Rattle.raft_store.specs.Entries.{entry_meaning};
 ghost use Rattle.raft_store.specs.Store.{between, put};
@@ -116,4 +116,38 @@ pub(crate) fn apply_due<M: Machine>(
         return Ok(());
     }
     apply_between(alloc, log, from, upto, states)
+}
+
+/// Whether these are the entries from one index up to another, the last left out.
+fn are_upto(log: &BTreeMap<u64, Entry>, from: u64, end: u64, entries: &[Entry]) -> bool
+    requires { from ≤ end }
+    ensures { IsTrue result → entries.now ≡ between from end log.now.entries }
+{
+    let mut left = entries;
+    for (_, entry) in log.range(from..end) {
+        let Some((first, others)) = left.split_first() else {
+            return false;
+        };
+        if !entry.is_same(first) {
+            return false;
+        }
+        left = others;
+    }
+    left.is_empty()
+}
+
+/// Whether these are the entries from one index up to another, the last left out: none, if that isn't above the one.
+#[tactic(auto, using(crate::proofs::Ranges::between_none))]
+pub(crate) fn are_between(
+    log: &BTreeMap<u64, Entry>,
+    from: u64,
+    end: u64,
+    entries: &[Entry],
+) -> bool
+    ensures { IsTrue result → entries.now ≡ between from end log.now.entries }
+{
+    if end <= from {
+        return entries.is_empty();
+    }
+    are_upto(log, from, end, entries)
 }

@@ -3,17 +3,19 @@
 //! An entry that is applied is kept, and its state isn't made: that of what was applied is read by nobody before it is a snapshot's. Then
 //! the entries are applied to the old snapshot's state, which nobody needs any more, so no state is copied.
 
-ghost use Rattle.std.specs.Prelude.{◌≡◌, [], IfOk, None, OnOk, Some, fold, unwrap_or};
+ghost use Rattle.std.specs.Prelude.{◌≡◌, [], IfOk, IsTrue, None, OnOk, Some, fold, unwrap_or};
 ghost use Rattle.std.specs.Option.{option_copied, option_map};
 ghost use Rattle.proof_packed_stores.specs.Stores.{packed, with_entries, with_entry};
-ghost use Rattle.raft_packed.specs.Kept.{summary_of};
+ghost use Rattle.raft_packed.specs.Kept.{IsNotedFolded, summary_of};
 
 use crate::error::PackedError;
+use crate::log::are_between;
 use crate::machine::Machine;
 use crate::packed::{Packed, apply_all};
 use crate::summary::Summary;
 use raft_store::Entry;
 use std::alloc::{AllocError, Global};
+use std::collections::BTreeMap;
 use std::marker::Model;
 use std::mem;
 
@@ -153,6 +155,24 @@ impl<M: Machine> States<M> {
         let mut state = state_after(base_of(&self.base, &self.snapshot), &self.first)?;
         apply_all(&self.rest, &mut state)?;
         Ok(Packed::with_state(self.applied.copy()?, state))
+    }
+
+    /// Whether what is noted is the snapshot with a log's entries up to its own end: of one whose state was made it says no. It makes none.
+    pub(crate) fn is_noted_folded(&self, log: &BTreeMap<u64, Entry>) -> bool
+        ensures { IsTrue result → IsNotedFolded M.application self.now.snap log.now.entries self.now.noted }
+    {
+        let Some(
+            Note {
+                summary,
+                state: None,
+            },
+        ) = &self.note
+        else {
+            return false;
+        };
+        self.base.is_none()
+            && are_between(log, self.snapshot.end(), summary.end, &self.first)
+            && self.snapshot.summary().is_with(&self.first, summary)
     }
 
     /// Applies the next entry.

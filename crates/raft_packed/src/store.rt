@@ -1,6 +1,6 @@
 //! What a node keeps when it stops.
 
-ghost use Rattle.std.specs.Prelude.{◌≡◌, IfOk, None, OnOk, Some, fold, length};
+ghost use Rattle.std.specs.Prelude.{◌≡◌, IfOk, IsTrue, None, OnOk, Some, fold, length};
 ghost use Rattle.std.specs.BTreeMap.{is_at};
 ghost use Rattle.std.specs.Map.{lookup, values_of};
 ghost use Rattle.std.specs.Option.{option_copied, option_map};
@@ -10,7 +10,7 @@ ghost use Rattle.raft_store.specs.Entries.{entry_meaning};
 ghost use Rattle.raft_store.specs.Starting.{entries_of};
 ghost use Rattle.raft_store.specs.Store.{between, no_store, put};
 ghost use Rattle.proof_packed_stores.specs.Stores.{packed_due, packed_exec, packed_exec_payload, packed_keep_snapshot, packed_store, with_entries};
-ghost use Rattle.raft_packed.specs.Kept.{kept_if_noted, summary_of};
+ghost use Rattle.raft_packed.specs.Kept.{IsNamedByEnd, folded, is_longer, kept_if_noted, summary_of};
 
 use crate::error::PackedError;
 use crate::log::{apply_due, copy_past, cut_from, drop_upto, insert_all};
@@ -223,6 +223,50 @@ impl<M: Machine> PackedStore<M> {
         }
         self.meta = noted.meta(self.alloc)?;
         self.states.keep_noted()
+    }
+
+    /// Whether what is noted is longer than the stored snapshot.
+    fn is_noted_longer(&self) -> bool
+        ensures { result ≡ is_longer (option_map summary_of self.now.noted) self.now.store.snap.end }
+    {
+        match self.states.noted() {
+            Some(noted) => self.states.snapshot().end() < noted.end(),
+            None => false,
+        }
+    }
+
+    /// Whether the end of what is noted for the next snapshot, if anything is, names it: it isn't longer than the stored one, so that it won't be
+    /// kept, or it is that one with the log's entries up to there. No state is made for it: of one that was made before it may say no.
+    #[tactic(auto, using(crate::proofs::Folded::shorter_named, crate::proofs::Folded::folded_named))]
+    pub fn is_named_by_end(&self) -> bool
+        ensures { IsTrue result → IsNamedByEnd M.application self.now.store self.now.noted }
+    {
+        !self.is_noted_longer() || self.states.is_noted_folded(&self.log)
+    }
+
+    /// What was applied is what the snapshot has, and the log's entries up to an index, the last left out.
+    fn apply_from_snapshot(&mut self, end: u64) -> Result<(), PackedError>
+        ensures { OnOk result (self.new.store ≡ record self.old.store { applied = folded M.application self.old.store end }) }
+    {
+        self.states.restart(Vec::new(self.alloc))?;
+        match end.checked_sub(1) {
+            Some(last) => apply_due(self.alloc, &self.log, last, &mut self.states),
+            None => Ok(()),
+        }
+    }
+
+    /// Keeps the snapshot that has the log's entries up to an index too, the last left out, if it is longer than the stored one: the entries are
+    /// applied to the state that is stored, and none is copied. What was applied is then what it has. For a store whose node doesn't run: what was
+    /// noted is lost, and after an `Err` nothing is promised of the store.
+    pub fn fold_log(&mut self, end: u64) -> Result<(), PackedError>
+        ensures { OnOk result (self.new.store ≡ record (packed_keep_snapshot (folded M.application self.old.store end) self.old.store) {
+          applied = folded M.application self.old.store end;
+        }) }
+    {
+        self.apply_from_snapshot(end)?;
+        self.note()?;
+        self.keep_noted()?;
+        Ok(())
     }
 
     /// Stores each entry at its index.

@@ -1,13 +1,13 @@
 //! What is kept of the entries up to an index, but their state.
 
-ghost use Rattle.std.specs.Prelude.{◌≡◌, [], IfOk, OnOk};
+ghost use Rattle.std.specs.Prelude.{◌≡◌, [], IfOk, IsTrue, OnOk};
 ghost use Rattle.raft_steps.specs.FollowingHandler.{stored_in};
-ghost use Rattle.raft_store.specs.Entries.{entry_meaning};
-ghost use Rattle.proof_packed_stores.specs.Stores.{packed, packed_meta, with_entry};
+ghost use Rattle.raft_store.specs.Entries.{entry_meaning, same_members};
+ghost use Rattle.proof_packed_stores.specs.Stores.{packed, packed_meta, with_entries, with_entry};
 ghost use Rattle.raft_packed.specs.Kept.{no_state};
 
 use crate::error::PackedError;
-use raft_state::{LogId, SnapshotMeta, StoredMembership, Text};
+use raft_state::{LogId, Membership, SnapshotMeta, StoredMembership, Text};
 use raft_store::{Entry, Payload};
 use std::alloc::{AllocError, Global};
 use std::marker::Model;
@@ -53,6 +53,31 @@ pub(crate) fn note(
         *before = std::mem::replace(effective, stored);
     }
     Ok(())
+}
+
+/// Whether the two are the same membership.
+fn is_same_membership(one: &Membership<u64, ()>, other: &Membership<u64, ()>) -> bool
+    ensures { result ≡ same_members one.now other.now }
+{
+    one == other
+}
+
+/// Whether the two are the same membership, with the same id.
+fn is_same_stored(one: &StoredMembership<u64, ()>, other: &StoredMembership<u64, ()>) -> bool
+    ensures { IsTrue result → one.now ≡ other.now }
+{
+    one.log_id == other.log_id && is_same_membership(&one.membership, &other.membership)
+}
+
+/// What is kept of entries after several more.
+fn with_all(summary: &Summary, entries: &[Entry]) -> Result<Summary, PackedError>
+    ensures { IfOk result (λ more. more ≡ with_entries no_state summary.now entries.now) }
+{
+    let mut more = summary.copy()?;
+    for entry in entries {
+        more.push(entry)?;
+    }
+    Ok(more)
 }
 
 impl Summary {
@@ -105,6 +130,26 @@ impl Summary {
         self.last_id = Some(entry.log_id);
         self.end = end;
         Ok(())
+    }
+
+    /// Whether the two are the same.
+    fn is_same(&self, other: &Summary) -> bool
+        ensures { IsTrue result → self.now ≡ other.now }
+    {
+        self.end == other.end
+            && self.last_id == other.last_id
+            && is_same_stored(&self.before, &other.before)
+            && is_same_stored(&self.effective, &other.effective)
+    }
+
+    /// Whether another is this one after these entries. Out of memory, it says no.
+    pub(crate) fn is_with(&self, entries: &[Entry], other: &Summary) -> bool
+        ensures { IsTrue result → other.now ≡ with_entries no_state self.now entries.now }
+    {
+        match with_all(self, entries) {
+            Ok(more) => other.is_same(&more),
+            Err(_) => false,
+        }
     }
 
     /// The meta of a snapshot of these entries: their last id and their last membership (Raft paper, section 7). Its own id is empty.
