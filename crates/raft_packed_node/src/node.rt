@@ -1,6 +1,6 @@
 //! A node whose snapshot is a state, and events at it.
 
-ghost use Rattle.std.specs.Prelude.{◌≡◌, IfErr, IfOk, None, OnOk, false, true};
+ghost use Rattle.std.specs.Prelude.{◌≡◌, IfErr, IfOk, IsTrue, None, OnOk, false, true};
 ghost use Rattle.std.specs.List.{fold};
 ghost use Rattle.std.specs.Option.{option_copied, option_map};
 ghost use Rattle.std.specs.Ordering.{nat_cmp};
@@ -14,7 +14,7 @@ ghost use Rattle.proof_packed.specs.Nodes.{packed_called_at, packed_calls, packe
 ghost use Rattle.proof_packed.specs.Nodes.{packed_restart, packed_with_answer, packed_work_of, without_store};
 ghost use Rattle.proof_packed.specs.Records.{packed_commands_at};
 ghost use Rattle.proof_packed.specs.Nodes.{packed_new_node};
-ghost use Rattle.raft_packed.specs.Kept.{summary_of};
+ghost use Rattle.raft_packed.specs.Kept.{IsNamedByEnd, summary_of};
 ghost use Rattle.raft_packed_node.specs.Builds.{packed_kept_early};
 ghost use Rattle.raft_packed_node.specs.Effects.{all_executed, brought_by, scene};
 ghost use Rattle.raft_packed_node.specs.Held.{IsPackedAtRest, PackedMayCall, PackedNotedFits, RunsOut, is_start};
@@ -176,6 +176,16 @@ impl<M: Machine> Node<M> {
         match &self.running {
             Some(_) => self.store.copy_noted(),
             None => Ok(None),
+        }
+    }
+
+    /// Whether the end of what is noted for a snapshot, if anything is, names it: [`PackedStore::is_named_by_end`].
+    pub fn is_named_by_end(&self) -> bool
+        ensures { IsTrue result → IsNamedByEnd M.application self.now.store self.now.noted }
+    {
+        match &self.running {
+            Some(_) => self.store.is_named_by_end(),
+            None => false,
         }
     }
 

@@ -19,8 +19,9 @@ use Rattle.raft_packed_node.specs.proof_packed.Stores.{Application, Packed, Pack
 use Rattle.raft_codec.specs.Codec.{Codec, Writes, list, number}
 use Rattle.raft_packed_wire.specs.declared.record.PackedChange.{PackedChange}
 use Rattle.raft_packed_wire.specs.declared.record.PackedChange.TheVariants.{Vote, Append, Purge, Install}
-use Rattle.raft_packed_wire.specs.Checkpoints.{CheckpointsRestore, IsKeyed, checkpoint, checkpoint_changes}
+use Rattle.raft_packed_wire.specs.Checkpoints.{AreInOrder, CheckpointsRestore, IsKeyed, checkpoint, checkpoint_changes}
 use Rattle.raft_packed_wire.specs.Records.{packed_change, packed_on_disk, packed_replayed}
+use Rattle.raft_packed_wire.proofs.Ordered.{put_again_in_order}
 
 -- entries that follow on, put one after the other, stand at their indexes
 put_again : (n : ℕ) (es : List Entry) → IsRun n (map entry_meaning.id_of es) → fold (put entry_meaning) [] es ≡ keyed entry_meaning es
@@ -46,6 +47,11 @@ pub checkpoints_restore : {S : Type 0} → CheckpointsRestore S
 checkpoints_restore app moment t h =
     replayed_as app moment t
     ∙ ap (with_log app t t.front) (put_again (next t.front) (values_of t.log) h.run ∙ sym h.keys)
+
+-- it is enough that the entries are in order
+pub order_restores : {S : Type 0} (app : Application S) (moment : ℕ) (t : PackedStore S) → AreInOrder 0 t.log
+    → packed_on_disk app (packed_replayed app (checkpoint moment t) (packed_store app (no_store 0))) ≡ packed_on_disk app t
+order_restores app moment t h = replayed_as app moment t ∙ ap (with_log app t t.front) (put_again_in_order t.log h)
 
 -- ---- its bytes
 

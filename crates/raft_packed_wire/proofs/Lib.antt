@@ -3,5 +3,7 @@ pub mod ValueLaws
 pub mod RecordLaws
 pub mod MessageLaws
 pub mod Replays
+pub mod Standing
 mod Steps
+pub mod Ordered
 pub mod Checkpoints

@@ -10,7 +10,7 @@ use Rattle.raft_packed_wire.specs.declared.packet.PackedContent.TheVariants as c
 use Rattle.raft_packed_wire.specs.Laws.{AreReadBackOf}
 use Rattle.raft_packed_wire.specs.Messages.{packed_content, packed_packet, sent_message}
 use Rattle.raft_packed_wire.specs.Values.{kept}
-use Rattle.raft_packed_wire.proofs.RecordLaws.{packed_began_is, packed_change_is, packed_logged_is}
+use Rattle.raft_packed_wire.proofs.RecordLaws.{named_began_is, named_logged_is, packed_change_is}
 use Rattle.raft_packed_wire.proofs.ValueLaws.{kept_is}
 
 module _ {P : Type 0} (c : Codec P) (h : IsCodec c) where
@@ -54,8 +54,8 @@ are_read_back c h =
     let k = kept_is c h in
     record {
       snapshots = k;
-      began = packed_began_is (kept c) k;
+      began = named_began_is (kept c) k;
       changes = packed_change_is (kept c) k;
-      records = packed_logged_is (kept c) k;
+      records = named_logged_is (kept c) k;
       packets = packed_packet_is (kept c) k;
     }

@@ -7,44 +7,16 @@ use Rattle.raft_wire.specs.Values.{log_id, snapshot_meta, vote}
 use Rattle.raft_wire.specs.ValueLaws.{log_id_is, snapshot_meta_is, vote_is}
 use Rattle.raft_wire.specs.Entries.{entry}
 use Rattle.raft_wire.specs.EntryLaws.{entries_is}
+use Rattle.raft_packed_node.specs.proof_packed.Stores.{Packed}
+use Rattle.raft_packed_wire.specs.declared.named.Named.{Named}
+use Rattle.raft_packed_wire.specs.declared.named.Named.TheVariants.{Whole, Folded}
 use Rattle.raft_packed_wire.specs.declared.record.PackedBegan.{PackedBegan}
 use Rattle.raft_packed_wire.specs.declared.record.PackedBegan.TheVariants.{Unchanged, Settled, Built}
 use Rattle.raft_packed_wire.specs.declared.record.PackedChange.{PackedChange}
 use Rattle.raft_packed_wire.specs.declared.record.PackedChange.TheVariants.{Vote, Append, Delete, Purge, Install}
-use Rattle.raft_packed_wire.specs.Records.{packed_began, packed_change, packed_logged}
+use Rattle.raft_packed_wire.specs.Records.{named_began, named_logged, packed_change}
 
 module _ {P : Type 0} (c : Codec P) (h : IsCodec c) where
-  began_some : (b : PackedBegan P) → 0 < length ((packed_began c).bytes b)
-  unfolding packed_began
-  began_some Unchanged = omega arith
-  began_some Settled = omega arith
-  began_some (Built p) = omega arith
-
-  began_back : (b : PackedBegan P) (rest : List ℕ) → (packed_began c).fits b → (packed_began c).read ((packed_began c).bytes b ++ rest) ≡ Ok (b, rest)
-  unfolding packed_began tag_at
-  began_back Unchanged rest f = refl
-  began_back Settled rest f = refl
-  began_back (Built p) rest f = rw (h.read_back p rest f) refl
-
-  began_written : (front : List ℕ) (found : PackedBegan P × List ℕ) → (packed_began c).read front ≡ Ok found → Stands (packed_began c) front found
-  unfolding packed_began
-  began_written front found e =
-      let whole = packed_began c in
-      let t = bind_ok (tag_at front) _ found e in
-      elim (chosen (eqb t.0.0 0) _ _ _ t.2) [
-        | inl k ↦ bare_stands whole front found t.0 0 Unchanged t.1 k.0 k.1 tt refl
-        | inr k ↦ elim (chosen (eqb t.0.0 1) _ _ _ k.1) [
-          | inl l ↦ bare_stands whole front found t.0 1 Settled t.1 l.0 l.1 tt refl
-          | inr l ↦ elim (chosen (eqb t.0.0 2) _ _ _ l.1) [
-            | inl m ↦ variant_stands whole front found t.0 2 c h Built t.1 m.0 m.1 (λ x f. f) (λ x. refl)
-            | inr m ↦ absurd cc
-          ]
-        ]
-      ]
-
-  pub packed_began_is : IsCodec (packed_began c)
-  packed_began_is = record { written = began_written; some = began_some; read_back = began_back }
-
   installed_is : IsCodec (pair snapshot_meta c)
   installed_is = pair_is snapshot_meta c snapshot_meta_is h
 
@@ -89,8 +61,45 @@ module _ {P : Type 0} (c : Codec P) (h : IsCodec c) where
   pub packed_change_is : IsCodec (packed_change c)
   packed_change_is = record { written = change_written; some = change_some; read_back = change_back }
 
-  pub packed_logged_is : IsCodec (packed_logged c)
-  unfolding packed_logged
-  packed_logged_is = by_parts_is _ _ _ (λ r. refl) (λ q. refl)
-      (pair_is number (pair (packed_began c) (list (packed_change c))) number_is
-      (pair_is (packed_began c) (list (packed_change c)) packed_began_is (list_is (packed_change c) packed_change_is)))
+module _ {S : Type 0} (c : Codec (Packed S)) (h : IsCodec c) where
+  began_some : (b : PackedBegan (Named S)) → 0 < length ((named_began c).bytes b)
+  unfolding named_began
+  began_some Unchanged = omega arith
+  began_some Settled = omega arith
+  began_some (Built (Whole p)) = omega arith
+  began_some (Built (Folded end)) = omega arith
+
+  began_back : (b : PackedBegan (Named S)) (rest : List ℕ) → (named_began c).fits b → (named_began c).read ((named_began c).bytes b ++ rest) ≡ Ok (b, rest)
+  unfolding named_began tag_at
+  began_back Unchanged rest f = refl
+  began_back Settled rest f = refl
+  began_back (Built (Whole p)) rest f = rw (h.read_back p rest f) refl
+  began_back (Built (Folded end)) rest f = rw (number_is.read_back end rest f) refl
+
+  began_written : (front : List ℕ) (found : PackedBegan (Named S) × List ℕ) → (named_began c).read front ≡ Ok found → Stands (named_began c) front found
+  unfolding named_began
+  began_written front found e =
+      let whole = named_began c in
+      let t = bind_ok (tag_at front) _ found e in
+      elim (chosen (eqb t.0.0 0) _ _ _ t.2) [
+        | inl k ↦ bare_stands whole front found t.0 0 Unchanged t.1 k.0 k.1 tt refl
+        | inr k ↦ elim (chosen (eqb t.0.0 1) _ _ _ k.1) [
+          | inl l ↦ bare_stands whole front found t.0 1 Settled t.1 l.0 l.1 tt refl
+          | inr l ↦ elim (chosen (eqb t.0.0 2) _ _ _ l.1) [
+            | inl m ↦ variant_stands whole front found t.0 2 c h (λ p. Built (Whole p)) t.1 m.0 m.1 (λ x f. f) (λ x. refl)
+            | inr m ↦ elim (chosen (eqb t.0.0 3) _ _ _ m.1) [
+              | inl n ↦ variant_stands whole front found t.0 3 number number_is (λ end. Built (Folded end)) t.1 n.0 n.1 (λ x f. f) (λ x. refl)
+              | inr n ↦ absurd cc
+            ]
+          ]
+        ]
+      ]
+
+  pub named_began_is : IsCodec (named_began c)
+  named_began_is = record { written = began_written; some = began_some; read_back = began_back }
+
+  pub named_logged_is : IsCodec (named_logged c)
+  unfolding named_logged
+  named_logged_is = by_parts_is _ _ _ (λ r. refl) (λ q. refl)
+      (pair_is number (pair (named_began c) (list (packed_change c))) number_is
+      (pair_is (named_began c) (list (packed_change c)) named_began_is (list_is (packed_change c) (packed_change_is c h))))

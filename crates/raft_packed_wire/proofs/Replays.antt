@@ -55,7 +55,7 @@ module _ {S : Type 0} (app : Application S) where
   alike brought (command.Respond _ _) t = refl
 
   -- stores that are the same on disk stay so
-  same_done : (brought : Packed S) (c : WorldCommand) (t u : PackedStore S) → packed_on_disk app t ≡ packed_on_disk app u
+  pub same_done : (brought : Packed S) (c : WorldCommand) (t u : PackedStore S) → packed_on_disk app t ≡ packed_on_disk app u
       → packed_on_disk app (packed_exec app brought c t) ≡ packed_on_disk app (packed_exec app brought c u)
   same_done brought c t u h = alike brought c t ∙ ap (λ x. packed_on_disk app (packed_exec app brought c x)) h ∙ sym (alike brought c u)
 
@@ -63,7 +63,7 @@ module _ {S : Type 0} (app : Application S) where
       → packed_on_disk app (packed_changed app t c) ≡ packed_on_disk app (packed_changed app (packed_on_disk app t) c)
   change_alike c t = alike _ (packed_command_of c) t
 
-  all_same : (cs : List (PackedChange (Packed S))) (t u : PackedStore S) → packed_on_disk app t ≡ packed_on_disk app u
+  pub all_same : (cs : List (PackedChange (Packed S))) (t u : PackedStore S) → packed_on_disk app t ≡ packed_on_disk app u
       → packed_on_disk app (fold (packed_changed app) t cs) ≡ packed_on_disk app (fold (packed_changed app) u cs)
   all_same [] t u h = h
   all_same (c ∷ cs) t u h =
@@ -128,7 +128,7 @@ module _ {S : Type 0} (app : Application S) where
       packed_on_disk app (cond b (record t { meta = packed_meta p; snap = p }) t)
       ≡ packed_on_disk app (cond b (record (packed_on_disk app t) { meta = packed_meta p; snap = p }) (packed_on_disk app t))) [ true ↦ refl | false ↦ refl ]
 
-  begun_same : (b : PackedBegan (Packed S)) (t u : PackedStore S)
+  pub begun_same : (b : PackedBegan (Packed S)) (t u : PackedStore S)
       → packed_on_disk app t ≡ packed_on_disk app u → packed_on_disk app (packed_begun app b t) ≡ packed_on_disk app (packed_begun app b u)
   begun_same b t u h = begun_alike b t ∙ ap (λ x. packed_on_disk app (packed_begun app b x)) h ∙ sym (begun_alike b u)
 

@@ -1,19 +1,26 @@
 -- A checkpoint of a store: a record that makes of a new store one that is the same on disk. So a log may begin with it, and the records that
 -- made the store need not stay (Raft paper, section 7: a snapshot stands for the log up to it).
-use Rattle.std.specs.Prelude.{ℕ, ◌≡◌, List, [], ◌∷◌, ◌++◌, map}
+use Rattle.std.specs.Prelude.{ℕ, ◌≡◌, ◌≤◌, ◌+◌, List, [], ◌∷◌, ◌++◌, map}
 use Rattle.std.specs.Map.{values_of}
 use Rattle.std.specs.Option.{option_to_list}
 use Rattle.raft_state.specs.LogLaws.{IsRun}
 use Rattle.raft_state.specs.Order.{next}
+use Rattle.raft_store.specs.declared.entry.Entry.{Entry}
 use Rattle.raft_store.specs.Entries.{entry_meaning}
 use Rattle.raft_store.specs.Mirror.{keyed}
 use Rattle.raft_store.specs.Store.{no_store}
 use Rattle.raft_packed_node.specs.proof_packed.Stores.{Application, Packed, PackedStore, packed_store}
+use Rattle.raft_packed_wire.specs.declared.record.NamedRecord.{NamedRecord}
 use Rattle.raft_packed_wire.specs.declared.record.PackedBegan.TheVariants.{Unchanged}
 use Rattle.raft_packed_wire.specs.declared.record.PackedChange.{PackedChange}
 use Rattle.raft_packed_wire.specs.declared.record.PackedChange.TheVariants.{Vote, Append, Purge, Install}
 use Rattle.raft_packed_wire.specs.declared.record.PackedRecord.{PackedRecord}
 use Rattle.raft_packed_wire.specs.Records.{packed_on_disk, packed_replayed}
+
+-- entries stand at their indexes, in their order
+abbrev pub AreInOrder : ℕ → List (ℕ × Entry) → Type 0
+AreInOrder from [] = Unit {0}
+AreInOrder from (x ∷ log) = (from ≤ x.0) × ((x.1.log_id.index ≡ x.0) × AreInOrder (x.0 + 1) log)
 
 module _ {S : Type 0} where
   -- the vote, the snapshot, the last purged id, if there is one, and the entries
@@ -23,6 +30,10 @@ module _ {S : Type 0} where
   -- of a store, while moments are reserved up to this one
   abbrev pub checkpoint : ℕ → PackedStore S → PackedRecord (Packed S)
   checkpoint moment t = record { moment = moment; began = Unchanged; changes = checkpoint_changes t }
+
+  -- and as it stands in a log: it names no snapshot but by all of it
+  abbrev pub named_checkpoint : ℕ → PackedStore S → NamedRecord S
+  named_checkpoint moment t = record { moment = moment; began = Unchanged; changes = checkpoint_changes t }
 
   -- a store's entries stand at their indexes, behind the last purged one
   pub record IsKeyed (t : PackedStore S) : Type 0 where

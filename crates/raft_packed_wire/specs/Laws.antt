@@ -9,7 +9,7 @@ use Rattle.raft_wire.specs.Records.{record_of, replayed}
 use Rattle.raft_packed_node.specs.proof_packed_stores.Laws.{Brings}
 use Rattle.raft_packed_node.specs.proof_packed.Nodes.{bare_command}
 use Rattle.raft_packed_node.specs.proof_packed.Stores.{Application, Packed, PackedStore, packed_store}
-use Rattle.raft_packed_wire.specs.Records.{PackedReplays, began_packed, packed_began, packed_change, packed_logged, packed_record_of, packed_replayed, record_packed}
+use Rattle.raft_packed_wire.specs.Records.{PackedReplays, began_packed, named_began, named_logged, packed_change, packed_record_of, packed_replayed, record_packed}
 use Rattle.raft_packed_wire.specs.Messages.{packed_packet}
 use Rattle.raft_packed_wire.specs.Values.{kept}
 use Rattle.raft_packed_wire.specs.declared.record.PackedRecord.{PackedRecord}
@@ -17,9 +17,9 @@ use Rattle.raft_packed_wire.specs.declared.record.PackedRecord.{PackedRecord}
 -- whatever form a machine's states have, as long as that is inverse to its writer
 pub record AreReadBackOf {S : Type 0} (c : Codec S) : Type 0 where
   pub snapshots : IsCodec (kept c)
-  pub began : IsCodec (packed_began (kept c))
+  pub began : IsCodec (named_began (kept c))
   pub changes : IsCodec (packed_change (kept c))
-  pub records : IsCodec (packed_logged (kept c))
+  pub records : IsCodec (named_logged (kept c))
   pub packets : IsCodec (packed_packet (kept c))
 
 pub record PacksReplaysOf {S : Type 0} (app : Application S) : Type 0 where

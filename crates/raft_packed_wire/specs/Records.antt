@@ -20,6 +20,9 @@ use Rattle.raft_wire.specs.Records.{change_of, changes_of, command_of}
 use Rattle.raft_packed_node.specs.proof_packed.Nodes.{of_no_entries}
 use Rattle.raft_packed_node.specs.proof_packed.Records.{packed_exec_all}
 use Rattle.raft_packed_node.specs.proof_packed.Stores.{Application, Packed, PackedStore, packed, packed_exec, packed_keep_snapshot, packed_settled}
+use Rattle.raft_packed_wire.specs.declared.named.Named.{Named}
+use Rattle.raft_packed_wire.specs.declared.named.Named.TheVariants.{Whole, Folded}
+use Rattle.raft_packed_wire.specs.declared.record.NamedRecord.{NamedRecord}
 use Rattle.raft_packed_wire.specs.declared.record.PackedBegan.{PackedBegan}
 use Rattle.raft_packed_wire.specs.declared.record.PackedBegan.TheVariants.{Unchanged, Settled, Built}
 use Rattle.raft_packed_wire.specs.declared.record.PackedChange.{PackedChange}
@@ -27,27 +30,6 @@ use Rattle.raft_packed_wire.specs.declared.record.PackedChange.TheVariants.{Vote
 use Rattle.raft_packed_wire.specs.declared.record.PackedRecord.{PackedRecord}
 
 module _ {P : Type 0} (c : Codec P) where
-  -- what a step's calls made of the store: 0 nothing, 1 it was settled, 2 and a built snapshot
-  unfoldable pub packed_began : Codec (PackedBegan P)
-  packed_began = record { fits = fits; bytes = bytes; read = read } where
-    fits : PackedBegan P → Type 0
-    fits Unchanged = Unit {0}
-    fits Settled = Unit {0}
-    fits (Built p) = c.fits p
-
-    bytes : PackedBegan P → List ℕ
-    bytes Unchanged = 0 ∷ []
-    bytes Settled = 1 ∷ []
-    bytes (Built p) = 2 ∷ c.bytes p
-
-    read : List ℕ → Result (PackedBegan P × List ℕ) DecodeError
-    read front = do
-      tag ← tag_at front
-      if tag.0 == 0 then Ok (Unchanged, tag.1)
-          else if tag.0 == 1 then Ok (Settled, tag.1)
-          else if tag.0 == 2 then (c.read tag.1 >>= λ p. Ok (Built p.0, p.1))
-          else unknown_tag tag.1
-
   -- a change: 0 a saved vote, 1 appended entries, 2 the first id that is deleted, 3 the last id that is purged, 4 an installed snapshot
   -- behind its meta
   unfoldable pub packed_change : Codec (PackedChange P)
@@ -76,17 +58,42 @@ module _ {P : Type 0} (c : Codec P) where
           else if tag.0 == 4 then ((pair snapshot_meta c).read tag.1 >>= λ s. Ok (Install s.0.0 s.0.1, s.1))
           else unknown_tag tag.1
 
-  -- a record: the moment up to which moments are reserved, what the step's calls made of the store, and each change
-  unfoldable pub packed_logged : Codec (PackedRecord P)
-  packed_logged = by_parts
-      (λ r. (r.moment, (r.began, r.changes)))
-      (λ q. record { moment = q.0; began = q.1.0; changes = q.1.1 })
-      (pair number (pair packed_began (list packed_change)))
-
   -- a writer of changes appends the bytes of each
   abbrev pub WritesPackedChanges : {E : Type 0} → List (PackedChange P) → Result (Unit {0}) E → List ℕ → List ℕ → Type 0
   WritesPackedChanges changes result old new =
       OnOk result (AllByRecursion packed_change.fits changes × (new ≡ old ++ flat_map packed_change.bytes changes))
+
+module _ {S : Type 0} (c : Codec (Packed S)) where
+  -- what a step's calls made of the store: 0 nothing, 1 it was settled, 2 and a built snapshot, 3 and the end of one that the log names by it
+  unfoldable pub named_began : Codec (PackedBegan (Named S))
+  named_began = record { fits = fits; bytes = bytes; read = read } where
+    fits : PackedBegan (Named S) → Type 0
+    fits Unchanged = Unit {0}
+    fits Settled = Unit {0}
+    fits (Built (Whole p)) = c.fits p
+    fits (Built (Folded end)) = number.fits end
+
+    bytes : PackedBegan (Named S) → List ℕ
+    bytes Unchanged = 0 ∷ []
+    bytes Settled = 1 ∷ []
+    bytes (Built (Whole p)) = 2 ∷ c.bytes p
+    bytes (Built (Folded end)) = 3 ∷ number.bytes end
+
+    read : List ℕ → Result (PackedBegan (Named S) × List ℕ) DecodeError
+    read front = do
+      tag ← tag_at front
+      if tag.0 == 0 then Ok (Unchanged, tag.1)
+          else if tag.0 == 1 then Ok (Settled, tag.1)
+          else if tag.0 == 2 then (c.read tag.1 >>= λ p. Ok (Built (Whole p.0), p.1))
+          else if tag.0 == 3 then (number.read tag.1 >>= λ end. Ok (Built (Folded end.0), end.1))
+          else unknown_tag tag.1
+
+  -- a record: the moment up to which moments are reserved, what the step's calls made of the store, and each change
+  unfoldable pub named_logged : Codec (NamedRecord S)
+  named_logged = by_parts
+      (λ r. (r.moment, (r.began, r.changes)))
+      (λ q. record { moment = q.0; began = q.1.0; changes = q.1.1 })
+      (pair number (pair named_began (list (packed_change c))))
 
 -- ---- what a record stands for
 

@@ -6,11 +6,12 @@ ghost use Rattle.std.specs.Option.{option_to_list};
 ghost use Rattle.raft_store.specs.Starting.{entries_of};
 ghost use Rattle.raft_codec.specs.Codec.{Writes, list};
 ghost use Rattle.raft_wire.specs.Entries.{entry};
-ghost use Rattle.raft_packed_wire.specs.Checkpoints.{checkpoint, checkpoint_changes};
-ghost use Rattle.raft_packed_wire.specs.Records.{WritesPackedChanges, packed_change, packed_logged};
+ghost use Rattle.raft_packed_wire.specs.Checkpoints.{checkpoint_changes, named_checkpoint};
+ghost use Rattle.raft_packed_wire.specs.Records.{WritesPackedChanges, named_logged, packed_change};
 ghost use Rattle.raft_packed_wire.specs.Values.{kept};
 ghost use Rattle.raft_packed_wire.specs.declared.record.PackedChange.TheVariants as made;
 
+use crate::named::Named;
 use crate::record::{PackedBegan, PackedChange, write_install};
 use raft_packed_node::raft_packed::{Machine, Packed, PackedStore};
 use raft_store::Entry;
@@ -84,15 +85,15 @@ fn write_changes<M: Machine>(out: &mut Vec<u8>, store: &PackedStore<M>) -> Resul
 
 /// Appends a checkpoint of a store, while moments are reserved up to this one, in milliseconds: a record that makes of a new store one
 /// that is the same on disk, [`checkpoints_restore`](crate::checkpoints_restore).
-#[tactic(auto, unfolding(crate::specs::Records::packed_logged))]
+#[tactic(auto, unfolding(crate::specs::Records::named_logged))]
 pub fn write_checkpoint<M: Machine>(
     out: &mut Vec<u8>,
     moment: u64,
     store: &PackedStore<M>,
 ) -> Result<(), AllocError>
-    ensures { Writes (packed_logged (kept M.codec)) (checkpoint moment store.now.store) result out.old.items out.new.items }
+    ensures { Writes (named_logged (kept M.codec)) (named_checkpoint moment store.now.store) result out.old.items out.new.items }
 {
     moment.write(out)?;
-    PackedBegan::<Packed<M>>::Unchanged.write(out)?;
+    PackedBegan::<Named<M>>::Unchanged.write(out)?;
     write_changes(out, store)
 }

@@ -1,6 +1,7 @@
 //! What servers whose snapshots are states leave on their disks, and send one another, as bytes.
 //!
-//! A snapshot is a `raft_packed::Packed`: its state stands in bytes as its machine writes it. Everything else stands as in `raft_wire`.
+//! A snapshot is a `raft_packed::Packed`: its state stands in bytes as its machine writes it. A log names one that was built by its end, if it can.
+//! Everything else stands as in `raft_wire`.
 #![tactic(auto)]
 
 pub use raft_packed_node;
@@ -8,6 +9,7 @@ pub use raft_packed_node::raft_packed;
 
 mod checkpoint;
 mod laws;
+mod named;
 mod packed;
 mod packet;
 mod record;
@@ -16,7 +18,8 @@ mod step;
 
 pub use checkpoint::write_checkpoint;
 pub use laws::{checkpoints_restore, packs_replays, records_are_read_back};
+pub use named::Named;
 pub use packed::{read_packed, write_packed};
 pub use packet::{PackedContent, PackedPacket, SentMessage};
-pub use record::{PackedBegan, PackedChange, PackedRecord, write_built};
+pub use record::{NamedRecord, PackedBegan, PackedChange, PackedRecord, write_built};
 pub use step::write_change;

@@ -1,11 +1,13 @@
 //! What one step of a server whose snapshots are states leaves on its disk.
 
 ghost use Rattle.raft_codec.specs.Codec.{Reads, Writes, list};
-ghost use Rattle.raft_packed_wire.specs.Records.{packed_began, packed_change, packed_logged};
+ghost use Rattle.raft_packed_wire.specs.Records.{named_began, named_logged, packed_change};
 ghost use Rattle.raft_packed_wire.specs.Values.{kept};
+ghost use Rattle.raft_packed_wire.specs.declared.named.Named.TheVariants as names;
 ghost use Rattle.raft_packed_wire.specs.declared.record.PackedBegan.TheVariants as begun;
 ghost use Rattle.raft_packed_wire.specs.declared.record.PackedChange.TheVariants as made;
 
+use crate::named::Named;
 use crate::packed::{read_packed, write_packed};
 use raft_codec::{DecodeError, Reader};
 use raft_packed_node::raft_packed::{Machine, Packed};
@@ -56,28 +58,44 @@ pub struct PackedRecord<P> {
     pub changes: Items<PackedChange<P>>,
 }
 
-impl<M: Machine> PackedBegan<Packed<M>> {
+/// A [`PackedRecord`] as it stands in a server's log: it names a snapshot that was built.
+#[derive(Drop)]
+pub struct NamedRecord<M: Machine> {
+    /// Up to which moment moments are reserved.
+    pub moment: u64,
+    /// What the step's calls made of the store.
+    pub began: PackedBegan<Named<M>>,
+    /// What its commands changed then, in their order.
+    pub changes: Items<PackedChange<Packed<M>>>,
+}
+
+impl<M: Machine> PackedBegan<Named<M>> {
     /// Appends it.
-    #[tactic(auto, unfolding(crate::specs::Records::packed_began))]
+    #[tactic(auto, unfolding(crate::specs::Records::named_began))]
     pub fn write(&self, out: &mut Vec<u8>) -> Result<(), AllocError>
-        ensures { Writes (packed_began (kept M.codec)) self.now result out.old.items out.new.items }
+        ensures { Writes (named_began (kept M.codec)) self.now result out.old.items out.new.items }
     {
         match self {
             PackedBegan::Unchanged => Ok(out.push(0)?),
             PackedBegan::Settled => Ok(out.push(1)?),
-            PackedBegan::Built(snapshot) => write_built(out, snapshot),
+            PackedBegan::Built(Named::Whole(snapshot)) => write_built(out, snapshot),
+            PackedBegan::Built(Named::Folded(end)) => {
+                out.push(3)?;
+                end.write(out)
+            }
         }
     }
 
     /// That at the front of bytes.
-    #[tactic(auto, unfolding(crate::specs::Records::packed_began))]
+    #[tactic(auto, unfolding(crate::specs::Records::named_began))]
     pub fn read(reader: &mut Reader<'_>) -> Result<Self, DecodeError>
-        ensures { Reads (packed_began (kept M.codec)) result reader.old reader.new }
+        ensures { Reads (named_began (kept M.codec)) result reader.old reader.new }
     {
         match reader.tag()? {
             0 => Ok(PackedBegan::Unchanged),
             1 => Ok(PackedBegan::Settled),
-            2 => Ok(PackedBegan::Built(read_packed(reader)?)),
+            2 => Ok(PackedBegan::Built(Named::Whole(read_packed(reader)?))),
+            3 => Ok(PackedBegan::Built(Named::Folded(reader.number()?))),
             _ => Err(reader.unknown_tag()),
         }
     }
@@ -129,10 +147,10 @@ impl<M: Machine> PackedChange<Packed<M>> {
     }
 }
 
-/// Appends that this snapshot was built.
-#[tactic(auto, unfolding(crate::specs::Records::packed_began))]
+/// Appends that this snapshot was built, whole.
+#[tactic(auto, unfolding(crate::specs::Records::named_began))]
 pub fn write_built<M: Machine>(out: &mut Vec<u8>, snapshot: &Packed<M>) -> Result<(), AllocError>
-    ensures { Writes (packed_began (kept M.codec)) (begun.Built snapshot.now) result out.old.items out.new.items }
+    ensures { Writes (named_began (kept M.codec)) (begun.Built (names.Whole snapshot.now)) result out.old.items out.new.items }
 {
     out.push(2)?;
     write_packed(out, snapshot)
@@ -182,11 +200,11 @@ fn read_changes<M: Machine>(
     Ok(Items::from_vec(changes))
 }
 
-impl<M: Machine> PackedRecord<Packed<M>> {
+impl<M: Machine> NamedRecord<M> {
     /// Appends it.
-    #[tactic(auto, unfolding(crate::specs::Records::packed_logged))]
+    #[tactic(auto, unfolding(crate::specs::Records::named_logged))]
     pub fn write(&self, out: &mut Vec<u8>) -> Result<(), AllocError>
-        ensures { Writes (packed_logged (kept M.codec)) self.now result out.old.items out.new.items }
+        ensures { Writes (named_logged (kept M.codec)) self.now result out.old.items out.new.items }
     {
         self.moment.write(out)?;
         self.began.write(out)?;
@@ -194,14 +212,14 @@ impl<M: Machine> PackedRecord<Packed<M>> {
     }
 
     /// That at the front of bytes.
-    #[tactic(auto, unfolding(crate::specs::Records::packed_logged))]
+    #[tactic(auto, unfolding(crate::specs::Records::named_logged))]
     pub fn read(reader: &mut Reader<'_>) -> Result<Self, DecodeError>
-        ensures { Reads (packed_logged (kept M.codec)) result reader.old reader.new }
+        ensures { Reads (named_logged (kept M.codec)) result reader.old reader.new }
     {
         let moment = reader.number()?;
         let began = PackedBegan::read(reader)?;
         let changes = read_changes(reader)?;
-        Ok(PackedRecord {
+        Ok(NamedRecord {
             moment,
             began,
             changes,

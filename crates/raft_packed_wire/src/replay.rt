@@ -2,14 +2,17 @@
 
 ghost use Rattle.std.specs.Prelude.{◌≡◌, OnOk, fold, unwrap_or};
 ghost use Rattle.raft_packed_node.specs.proof_packed.Nodes.{of_no_entries};
-ghost use Rattle.raft_packed_wire.specs.Records.{bare_install, installed_by, packed_begun, packed_changed, packed_command_of, packed_replayed};
+ghost use Rattle.raft_packed_wire.specs.Named.{whole_began, whole_record};
+ghost use Rattle.raft_packed_wire.specs.Records.{bare_install, installed_by, packed_begun, packed_changed, packed_command_of};
+ghost use Rattle.raft_packed_wire.specs.Records.{packed_on_disk, packed_replayed};
 
-use crate::record::{PackedBegan, PackedChange, PackedRecord};
+use crate::named::Named;
+use crate::record::{NamedRecord, PackedBegan, PackedChange};
 use raft_command::{Command, Snapshot, sm};
 use raft_packed_node::raft_packed::{Machine, Packed, PackedError, PackedStore};
 use raft_state::{Items, SnapshotMeta, Vote};
 use raft_store::WorldConfig;
-use std::alloc::{AllocError, Global};
+use std::alloc::Global;
 
 /// The command that installs a snapshot with this meta, without its data.
 fn install(alloc: Global, meta: SnapshotMeta<u64, ()>) -> Command<WorldConfig>
@@ -77,12 +80,14 @@ fn apply_all<M: Machine>(
     Ok(())
 }
 
-/// Makes of a store what a step's calls made of it.
+/// Makes of a store what a step's calls made of it: an end that names a snapshot has the log's entries up to it folded into the stored one, in
+/// place.
 fn begin<M: Machine>(
     store: &mut PackedStore<M>,
-    began: PackedBegan<Packed<M>>,
-) -> Result<(), AllocError>
-    ensures { OnOk result (store.new ≡ record store.old { store = packed_begun M.application began store.old.store }) }
+    began: PackedBegan<Named<M>>,
+) -> Result<(), PackedError>
+    ensures { OnOk result (packed_on_disk M.application store.new.store
+        ≡ packed_on_disk M.application (packed_begun M.application (whole_began M.application store.old.store began) store.old.store)) }
 {
     match began {
         PackedBegan::Unchanged => Ok(()),
@@ -90,19 +95,21 @@ fn begin<M: Machine>(
             store.settle();
             Ok(())
         }
-        PackedBegan::Built(snapshot) => store.keep_snapshot(snapshot),
+        PackedBegan::Built(Named::Whole(snapshot)) => Ok(store.keep_snapshot(snapshot)?),
+        PackedBegan::Built(Named::Folded(end)) => store.fold_log(end),
     }
 }
 
-impl<M: Machine> PackedRecord<Packed<M>> {
-    /// Makes of a store what the record's step made of it, but for the saved committed id and what the state machine has applied:
-    /// [`packs_replays`](crate::packs_replays).
+impl<M: Machine> NamedRecord<M> {
+    /// Makes of a store, on disk, what the record's step made of it: what it has beside that, the saved committed id and what the state machine has
+    /// applied, may be other ([`packs_replays`](crate::packs_replays)). For a store whose node doesn't run.
     ///
     /// After an `Err` nothing is promised of the store.
     pub fn replay(self, store: &mut PackedStore<M>) -> Result<(), PackedError>
-        ensures { OnOk result (store.new ≡ record store.old { store = packed_replayed M.application self store.old.store }) }
+        ensures { OnOk result (packed_on_disk M.application store.new.store
+            ≡ packed_on_disk M.application (packed_replayed M.application (whole_record M.application store.old.store self) store.old.store)) }
     {
-        let PackedRecord { began, changes, .. } = self;
+        let NamedRecord { began, changes, .. } = self;
         begin(store, began)?;
         apply_all(store, changes.into_vec())
     }
