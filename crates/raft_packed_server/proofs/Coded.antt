@@ -11,12 +11,12 @@ use Rattle.proof_logs.specs.Batches.{bytes_of}
 use Rattle.proof_packed.specs.Stores.{Packed}
 use Rattle.raft_packed_wire.specs.Records.{packed_change_of, with_snapshot}
 use Rattle.raft_packed_wire.specs.Values.{kept}
-use Rattle.raft_packed_wire.proofs.RecordLaws.{packed_logged_is}
+use Rattle.raft_packed_wire.proofs.RecordLaws.{named_logged_is}
 use Rattle.raft_packed_wire.proofs.ValueLaws.{kept_is}
 use Rattle.raft_packed_server.specs.Logs.{logged_by}
 
 pub logged_by_is : {S : Type 0} (c : Codec S) → IsCodec c → IsCodec (logged_by c)
-logged_by_is c inverse = packed_logged_is (kept c) (kept_is c inverse)
+logged_by_is c inverse = named_logged_is (kept c) (kept_is c inverse)
 
 -- records that are some have bytes
 pub some_bytes : {R : Type 0} (c : Codec R) → IsCodec c → (records : List R) → records ≢ [] → 1 ≤ length (bytes_of c records)

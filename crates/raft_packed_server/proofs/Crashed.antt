@@ -18,17 +18,19 @@ use Rattle.proof_logs.specs.Batches.{IsFileOf, all_of, bytes_of, file_of, one_ba
 use Rattle.proof_logs.proofs.Cuts.{cuts_leave, filled_cuts_leave}
 use Rattle.proof_logs.proofs.Files.{are_payloads, file_bytes, zeros_bytes}
 use Rattle.proof_logs.proofs.Records.{batches_join}
-use Rattle.proof_packed.specs.Stores.{Application, Packed}
-use Rattle.raft_packed_wire.specs.declared.record.PackedRecord.{PackedRecord}
-use Rattle.proof_packed_servers.specs.Servers.{PackedServer, packed_flushed_first, packed_started}
+use Rattle.proof_packed.specs.Stores.{Application}
+use Rattle.raft_packed_wire.specs.declared.record.NamedRecord.{NamedRecord}
+use Rattle.raft_packed_wire.proofs.Standing.{wholes}
+use Rattle.proof_packed_servers.specs.Servers.{PackedServer, packed_flushed_first, packed_new_disk, packed_started, packed_with_records}
 use Rattle.raft_packed_server.specs.declared.server.Opened.{Opened}
 use Rattle.raft_packed_server.specs.declared.serving.Serving.{Serving}
 use Rattle.raft_packed_server.specs.Laws.{IsAtEnd, IsCut, OpensAfterCuts, OpensAfterZeros, OpensCrashed, cut_file}
-use Rattle.raft_packed_server.specs.Logs.{first_records, logged_by, restored}
+use Rattle.raft_packed_server.specs.Logs.{HasLog, logged_by, restored}
 use Rattle.raft_packed_server.specs.Recovery.{GoesOn, GoesOnAt, OpensOn}
 use Rattle.raft_packed_server.specs.Represents.{Represents}
 use Rattle.raft_packed_server.proofs.Coded.{logged_by_is}
-use Rattle.raft_packed_server.proofs.Logged.{flushed_made}
+use Rattle.raft_packed_server.proofs.Logged.{log_more}
+use Rattle.raft_packed_server.proofs.Waiting.{stand_makes}
 
 ok_same : {A E : Type 0} (x y : A) → ◌≡◌ {A = Result A E} (Ok x) (Ok y) → x ≡ y
 ok_same x y e = cc
@@ -38,14 +40,14 @@ file_long : (log : LogId) (payloads : List (List ℕ)) → 32 ≤ length (file l
 file_long log payloads = omega (arith, length-append (header log) (frames (start log) payloads))
 
 module _ {S : Type 0} (app : Application S) (c : Codec S) (given : Given) (log : LogId) (k at : ℕ)
-    (s : PackedServer S) (batches : List (List (PackedRecord (Packed S)))) (n : ℕ)
-    (cut : IsCut app c log k s batches n) (bytes : List ℕ) (o : Opened S) (each : AllByRecursion IsByte bytes)
-    (l : Leaves (logged_by c) log batches (first_records k s.waiting) bytes) (is : OpensOn app c given log bytes at o) where
+    (s : PackedServer S) (batches : List (List (NamedRecord S))) (next : List (NamedRecord S)) (n : ℕ)
+    (cut : IsCut app c log k s batches next n) (bytes : List ℕ) (o : Opened S) (each : AllByRecursion IsByte bytes)
+    (l : Leaves (logged_by c) log batches next bytes) (is : OpensOn app c given log bytes at o) where
   same : is.contents ≡ l.found.contents
   same = ok_same is.contents l.found.contents (sym is.holds.frames ∙ l.found.holds.frames)
 
-  same_records : is.records ≡ all_of l.left
-  same_records = ok_same is.records (all_of l.left)
+  same_named : is.named ≡ all_of l.left
+  same_named = ok_same is.named (all_of l.left)
       (sym is.holds.decoded ∙ (ap (λ (x : Contents). read_in (logged_by c) x.payloads) same ∙ l.found.holds.decoded))
 
   kept_file : IsFileOf (logged_by c) log l.left (take o.end bytes)
@@ -84,27 +86,33 @@ module _ {S : Type 0} (app : Application S) (c : Codec S) (given : Given) (log :
   }
 
   -- with as many records on disk as make the batches that are left
-  opened_with : (survive : ℕ) → (survive ≡ 0) ⊎ (survive ≡ k) → (packed_flushed_first app survive s).disk ≡ restored app (all_of l.left)
+  opened_with : (survive : ℕ) → (survive ≡ 0) ⊎ (survive ≡ k) → HasLog app c (packed_flushed_first app survive s) l.left
       → OpensCrashed app c given log k at s bytes o
-  opened_with survive whole disk = record {
+  opened_with survive whole has = record {
     survive = survive;
     whole = whole;
     batches = l.left;
-    has = record { writable = l.writable; disk = disk };
+    has = record { writable = has.writable; records = has.records; stand = has.stand; disk = has.disk };
     stands =
-        subst (λ (t : PackedServer S). Represents t o.server)
-        (ap (λ rs. packed_started app given log.node at (restored app rs)) same_records ∙ ap (packed_started app given log.node at) (sym disk))
-        is.starts;
+        subst (λ (t : PackedServer S). Represents app t o.server) (ap (packed_started app given log.node at) (made ∙ sym has.disk)) is.starts;
     goes_on = ends;
     idle = λ v serves. (goes v serves).idle;
   }
+    where
+      made : restored app is.records ≡ restored app has.records
+      made =
+          stand_makes app is.named is.records (packed_new_disk app) is.stand
+          ∙ (ap (λ rs. packed_with_records app (wholes app (packed_new_disk app).store rs) (packed_new_disk app)) same_named
+          ∙ sym (stand_makes app (all_of l.left) has.records (packed_new_disk app) has.stand))
 
   opened_after : OpensCrashed app c given log k at s bytes o
   opened_after = go l.whole
     where
-      go : (l.left ≡ batches) ⊎ (l.left ≡ batches ++ one_batch (first_records k s.waiting)) → OpensCrashed app c given log k at s bytes o
-      go (inl none) = opened_with 0 (inl refl) (cut.has.disk ∙ ap (λ bs. restored app (all_of bs)) (sym none))
-      go (inr all) = opened_with k (inr refl) (flushed_made app k s batches cut.has.disk ∙ ap (λ bs. restored app (all_of bs)) (sym all))
+      go : (l.left ≡ batches) ⊎ (l.left ≡ batches ++ one_batch next) → OpensCrashed app c given log k at s bytes o
+      go (inl none) = opened_with 0 (inl refl) (subst (HasLog app c s) (sym none) cut.has)
+      go (inr all) =
+          opened_with k (inr refl)
+          (subst (HasLog app c (packed_flushed_first app k s)) (sym all) (log_more app c k s batches next cut.has cut.file.more cut.stand))
 
 -- what is left is bytes
 left_bytes : {R : Type 0} (c : Codec R) (log : LogId) (batches : List (List R)) (next : List R) (n : ℕ) → IsCutOf c log batches next n
@@ -116,23 +124,23 @@ left_bytes c log batches next n cut =
 
 module _ {S : Type 0} (app : Application S) (c : Codec S) (inverse : IsCodec c) where
   pub opens_after_cuts : OpensAfterCuts app c
-  opens_after_cuts given log k at s batches n o cut is =
-      opened_after app c given log k at s batches n cut (cut_file app c log k s batches n) o
-      (left_bytes (logged_by c) log batches (first_records k s.waiting) n cut.file)
-      (cuts_leave (logged_by c) (logged_by_is c inverse) log batches (first_records k s.waiting) n cut.file) is
+  opens_after_cuts given log k at s batches next n o cut is =
+      opened_after app c given log k at s batches next n cut (cut_file app c log batches next n) o
+      (left_bytes (logged_by c) log batches next n cut.file)
+      (cuts_leave (logged_by c) (logged_by_is c inverse) log batches next n cut.file) is
 
   pub opens_after_zeros : OpensAfterZeros app c
-  opens_after_zeros given log k at s batches n zeros o cut is =
-      go (filled_cuts_leave (logged_by c) (logged_by_is c inverse) log batches (first_records k s.waiting) n zeros cut.file)
+  opens_after_zeros given log k at s batches next n zeros o cut is =
+      go (filled_cuts_leave (logged_by c) (logged_by_is c inverse) log batches next n zeros cut.file)
     where
       filled : List ℕ
-      filled = cut_file app c log k s batches n ++ replicate zeros 0
+      filled = cut_file app c log batches next n ++ replicate zeros 0
 
-      go : Leaves (logged_by c) log batches (first_records k s.waiting) filled
-          ⊎ ReadsByChanceOf (logged_by c) log batches (first_records k s.waiting) filled
-          → OpensCrashed app c given log k at s filled o ⊎ ReadsByChanceOf (logged_by c) log batches (first_records k s.waiting) filled
+      go : Leaves (logged_by c) log batches next filled
+          ⊎ ReadsByChanceOf (logged_by c) log batches next filled
+          → OpensCrashed app c given log k at s filled o ⊎ ReadsByChanceOf (logged_by c) log batches next filled
       go (inl l) =
-          inl (opened_after app c given log k at s batches n cut filled o
-          (all-append (cut_file app c log k s batches n) (replicate zeros 0)
-          (left_bytes (logged_by c) log batches (first_records k s.waiting) n cut.file) (zeros_bytes zeros)) l is)
+          inl (opened_after app c given log k at s batches next n cut filled o
+          (all-append (cut_file app c log batches next n) (replicate zeros 0)
+          (left_bytes (logged_by c) log batches next n cut.file) (zeros_bytes zeros)) l is)
       go (inr chance) = inr chance

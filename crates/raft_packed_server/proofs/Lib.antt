@@ -5,6 +5,8 @@ pub use Rattle.raft_packed_wire.proofs as raft_packed_wire_proofs
 pub mod Kept  -- values in bytes are seen as those values
 mod Coded  -- records and changes are read back
 mod Replayed  -- what a log's records make
+pub mod Stored  -- what a step makes of a store is what its record says
+pub mod Ordered  -- the entries of a store stay in order
 pub mod Waiting  -- a server stands for one of the model
 pub mod Prepared  -- a node that is prepared for a step does in it what it would have done
 pub mod Seen  -- what a step's calls make of the store is seen as that

@@ -1,23 +1,23 @@
 -- What is handed out makes the file of the model's server.
-use Rattle.std.proofs.Common.{ℕ, zero, suc, ◌≡◌, ◌≤◌, ◌∙◌, List, [], ◌∷◌, ◌++◌, length, None, Some, refl, sym, ap, append_assoc, arith, inl, inr}
+use Rattle.std.proofs.Common.{ℕ, ◌≡◌, ◌≤◌, ◌∙◌, List, [], ◌∷◌, ◌++◌, length, None, Some, refl, sym, ap, subst, append_assoc, arith, inl, inr}
 use Rattle.std.specs.Prelude.{◌⊎◌, map}
 use Rattle.std.proofs.lemmas.List.{append-nil, map-append, take_all}
-use Rattle.std.proofs.lemmas.List.Sums.{fold-append}
 use Rattle.raft_frames.specs.declared.tail.Tail.{Tail}
 use Rattle.raft_frames.specs.Format.{after, after_all, frame, frames, header, start}
 use Rattle.raft_codec.specs.Codec.{Codec}
-use Rattle.proof_logs.specs.Batches.{IsBatchOf, all_of, bytes_of, file_of, one_batch}
+use Rattle.proof_logs.specs.Batches.{AreBatchesOf, IsBatchOf, all_of, bytes_of, file_of, one_batch}
 use Rattle.proof_logs.proofs.Records.{all_more, batches_join}
-use Rattle.proof_packed.specs.Stores.{Application, Packed}
-use Rattle.raft_packed_wire.specs.declared.record.PackedRecord.{PackedRecord}
-use Rattle.proof_packed_servers.specs.Servers.{PackedDisk, PackedServer, PackedWaitingStep, packed_flushed, packed_flushed_first, packed_new_disk}
-use Rattle.proof_packed_servers.specs.Servers.{packed_with_record, packed_with_records}
+use Rattle.proof_packed.specs.Stores.{Application}
+use Rattle.raft_packed_wire.specs.declared.record.NamedRecord.{NamedRecord}
+use Rattle.raft_packed_wire.specs.Named.{StandFor}
+use Rattle.raft_packed_wire.proofs.Standing.{stand_join}
+use Rattle.proof_packed_servers.specs.Servers.{PackedDisk, PackedServer, packed_flushed_first, packed_new_disk, packed_with_records}
 use Rattle.raft_packed_server.specs.declared.serving.Serving.{Serving}
 use Rattle.raft_packed_server.specs.Laws.{WritesLog}
-use Rattle.raft_packed_server.specs.Logs.{first_records, left_by, logged_by, restored}
+use Rattle.raft_packed_server.specs.Logs.{HasLog, first_records, left_by, logged_by}
 use Rattle.raft_packed_server.specs.Represents.{AreUnwritten, Stands}
 use Rattle.raft_packed_server.specs.Views.{header_of, with_batch}
-use Rattle.raft_packed_server.proofs.Waiting.{unwritten}
+use Rattle.raft_packed_server.proofs.Waiting.{flushed_disk, store_made, unwritten, with_more}
 
 -- ---- frames
 
@@ -34,34 +34,25 @@ after_more tail (x ∷ payloads) p = after_more (after tail x) payloads p
 
 -- ---- what the k oldest waiting steps leave is on disk: what those records make of it
 
-module _ {S : Type 0} (app : Application S) where
-  abbrev server_of : PackedServer S → PackedServer S
-  server_of s = s
-
-  with_more : (rs more : List (PackedRecord (Packed S))) (d : PackedDisk S)
-      → packed_with_records app more (packed_with_records app rs d) ≡ packed_with_records app (rs ++ more) d
-  with_more rs more d = sym (fold-append (λ (disk : PackedDisk S) (r : PackedRecord (Packed S)). packed_with_record app r disk) d rs more)
-
-  flushed_disk : (k : ℕ) (s : PackedServer S) → (packed_flushed_first app k s).disk ≡ packed_with_records app (first_records k s.waiting) s.disk
-  flushed_disk zero s = refl
-  flushed_disk (suc k) s = go s.waiting (λ w ws. flushed_disk k (packed_flushed app w ws s))
+module _ {S : Type 0} (app : Application S) (c : Codec S) where
+  -- so a log with one batch more, which stands for those, makes that disk
+  pub log_more : (k : ℕ) (s : PackedServer S) (batches : List (List (NamedRecord S))) (next : List (NamedRecord S)) → HasLog app c s batches
+      → AreBatchesOf (logged_by c) (one_batch next) → StandFor app s.disk.store next (first_records k s.waiting)
+      → HasLog app c (packed_flushed_first app k s) (batches ++ one_batch next)
+  log_more k s batches next has writable stand = record {
+    writable = batches_join (logged_by c) batches (one_batch next) has.writable writable;
+    records = has.records ++ first_records k s.waiting;
+    stand =
+        subst (λ rs. StandFor app new.store rs (has.records ++ first_records k s.waiting)) (sym (all_more batches next))
+        (stand_join app new.store (all_of batches) next has.records (first_records k s.waiting) has.stand
+        (subst (λ t. StandFor app t next (first_records k s.waiting)) (ap (λ (d : PackedDisk S). d.store) has.disk ∙ store_made app has.records new) stand));
+    disk =
+        flushed_disk app k s
+        ∙ (ap (packed_with_records app (first_records k s.waiting)) has.disk ∙ with_more app has.records (first_records k s.waiting) new);
+  }
     where
-      go : (xs : List (PackedWaitingStep S))
-          → ((w : PackedWaitingStep S) (ws : List (PackedWaitingStep S)) → (packed_flushed_first app k (packed_flushed app w ws s)).disk
-          ≡ packed_with_records app (first_records k ws) (packed_with_records app w.disk_records s.disk))
-          → (server_of (elim xs as (λ _. PackedServer S) [ [] ↦ s | w ∷ ws ↦ packed_flushed_first app k (packed_flushed app w ws s) ])).disk
-          ≡ packed_with_records app (first_records (suc k) xs) s.disk
-      go [] rest = refl
-      go (w ∷ ws) rest = rest w ws ∙ with_more w.disk_records (first_records k ws) s.disk
-
-  -- so a disk that batches made is made by one batch more
-  pub flushed_made : (k : ℕ) (s : PackedServer S) (batches : List (List (PackedRecord (Packed S)))) → s.disk ≡ restored app (all_of batches)
-      → (packed_flushed_first app k s).disk ≡ restored app (all_of (batches ++ one_batch (first_records k s.waiting)))
-  flushed_made k s batches made =
-      flushed_disk k s
-      ∙ (ap (packed_with_records app (first_records k s.waiting)) made
-      ∙ (with_more (all_of batches) (first_records k s.waiting) (packed_new_disk app)
-      ∙ ap (restored app) (sym (all_more batches (first_records k s.waiting)))))
+      new : PackedDisk S
+      new = packed_new_disk app
 
 -- ---- the records that are handed out
 
@@ -70,37 +61,36 @@ batch_is : {R : Type 0} (c : Codec R) (records : List R) → 1 ≤ length (bytes
 batch_is c [] some = absurd (omega (arith, some))
 batch_is c (r ∷ records) some = refl
 
--- the records that are handed out are those of all waiting steps
-pub record AreFirst {S : Type 0} (s : PackedServer S) (v : Serving S) : Type 0 where
+-- the records that are handed out stand for those of all waiting steps
+pub record AreFirst {S : Type 0} (app : Application S) (s : PackedServer S) (v : Serving S) : Type 0 where
   pub within : v.steps ≤ length s.waiting
-  pub batch : one_batch (first_records v.steps s.waiting) ≡ v.records ∷ []
+  pub stand : StandFor app s.disk.store v.records (first_records v.steps s.waiting)
+  pub batch : one_batch v.records ≡ v.records ∷ []
 
-pub first_is : {S : Type 0} (c : Codec S) (s : PackedServer S) (v : Serving S) → v.written ≡ None → Stands s v → IsBatchOf (logged_by c) v.records
-    → AreFirst s v
-first_is c s v none stands batch = record {
+pub first_is : {S : Type 0} (app : Application S) (c : Codec S) (s : PackedServer S) (v : Serving S) → v.written ≡ None → Stands app s v
+    → IsBatchOf (logged_by c) v.records → AreFirst app s v
+first_is app c s v none stands batch = record {
   within = omega (arith, are.steps);
-  batch =
-      ap (λ ws. one_batch (left_by ws)) (take_all v.steps s.waiting (omega (arith, are.steps)))
-      ∙ (ap one_batch (sym are.records) ∙ batch_is (logged_by c) v.records batch.payload.some);
+  stand =
+      subst (λ ws. StandFor app s.disk.store v.records (left_by ws)) (sym (take_all v.steps s.waiting (omega (arith, are.steps)))) are.records;
+  batch = batch_is (logged_by c) v.records batch.payload.some;
 }
   where
-    are : AreUnwritten v s.waiting
-    are = unwritten s v none stands
+    are : AreUnwritten app s.disk v s.waiting
+    are = unwritten app s v none stands
 
 pub writes_log : {S : Type 0} (app : Application S) (c : Codec S) → WritesLog app c
-writes_log app c log s batches file v w has stands here out = (
-  record { writable = batches_join (logged_by c) batches (v.records ∷ []) has.writable (out.batch, tt); disk = disk },
+writes_log {S = S} app c log s batches file v w has stands here out = (
+  subst (λ more. HasLog app c (packed_flushed_first app v.steps s) (batches ++ more)) first.batch
+      (log_more app c v.steps s batches v.records has (subst (AreBatchesOf (logged_by c)) (sym first.batch) (out.batch, tt)) first.stand),
   record { file = inr (go here.file, refl); tail = tail },
 )
   where
+    first : AreFirst app s v
+    first = first_is app c s v out.none_before stands out.batch
+
     p : List ℕ
     p = bytes_of (logged_by c) v.records
-
-    first : one_batch (first_records v.steps s.waiting) ≡ v.records ∷ []
-    first = (first_is c s v out.none_before stands out.batch).batch
-
-    disk : (packed_flushed_first app v.steps s).disk ≡ restored app (all_of (batches ++ v.records ∷ []))
-    disk = flushed_made app v.steps s batches has.disk ∙ ap (λ more. restored app (all_of (batches ++ more))) first
 
     both : map (bytes_of (logged_by c)) (batches ++ v.records ∷ []) ≡ map (bytes_of (logged_by c)) batches ++ p ∷ []
     both = map-append (bytes_of (logged_by c)) batches (v.records ∷ [])

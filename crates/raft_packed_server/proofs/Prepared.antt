@@ -1,13 +1,14 @@
 -- A node that is prepared for a step does in it what it would have done.
-use Rattle.std.specs.Prelude.{ℕ, ◌≡◌, Bool, true, false, not, ◌&&◌, Option, None, Some, is_some, nat_lt, refl, if◌then◌else◌}
-use Rattle.std.proofs.Common.{ap, subst, sym, ◌∙◌}
+use Rattle.std.specs.Prelude.{ℕ, ◌≡◌, Bool, true, false, not, ◌&&◌, Option, None, Some, Result, Ok, Err, OnOk, is_some, nat_lt, refl, if◌then◌else◌}
+use Rattle.std.proofs.Common.{ap, arith, subst, sym, ◌∙◌}
+use Rattle.std.proofs.lemmas.Bool.Decides.{nat_tests}
 use Rattle.std.specs.Ordering.{nat_cmp}
 use Rattle.raft_error.specs.declared.error.EngineError.{EngineError}
 use Rattle.raft_steps.specs.Refusals.{refusals_of_spent}
 use Rattle.raft_steps.specs.SnapshotCalls.{finish_building_snapshot}
 use Rattle.raft_store.specs.Types.{EngineView}
 use Rattle.raft_schedule.specs.declared.event.Event.{Event}
-use Rattle.raft_schedule.specs.declared.event.Outcome.{Outcome}
+use Rattle.raft_schedule.specs.declared.event.Start.{Start}
 use Rattle.raft_node.specs.declared.act.Act.{Act}
 use Rattle.raft_node.specs.declared.act.Act.TheVariants.{Initialize, Elect, Take, Propose, SendHeartbeat, Fail, TriggerSnapshot, FinishSnapshot, TriggerPurge, Restart, ChangeLearners, ChangeMembership, Read, StepDown, Stop}
 use Rattle.raft_node.specs.declared.given.Given.{Given}
@@ -22,19 +23,31 @@ use Rattle.raft_packed_wire.specs.raft_packed_node.Builds.{packed_kept_early}
 use Rattle.raft_packed_wire.specs.raft_packed_node.Effects.{scene}
 use Rattle.raft_packed_wire.specs.raft_packed_node.Held.{IsPackedAtRest, PackedMayCall}
 use Rattle.raft_packed_wire.proofs.raft_packed_node_proofs.Ready.{may_call}
+use Rattle.raft_packed_wire.specs.raft_packed.Kept.{IsNamedByEnd, folded, kept_if_noted}
+use Rattle.raft_packed_wire.specs.declared.named.Named.{Named}
+use Rattle.raft_packed_wire.specs.declared.named.Named.TheVariants.{Whole, Folded}
+use Rattle.raft_packed_wire.specs.Named.{IsBeganBy}
 use Rattle.raft_packed_wire.specs.declared.record.PackedBegan.{PackedBegan}
-use Rattle.raft_packed_wire.specs.declared.record.PackedBegan.TheVariants.{Built, Unchanged}
+use Rattle.raft_packed_wire.specs.declared.record.PackedBegan.TheVariants.{Built, Settled, Unchanged}
 use Rattle.proof_packed_servers.specs.Servers.{packed_call_effect}
-use Rattle.raft_packed_server.specs.Began.{ends_build, is_longer, prepared_for}
+use Rattle.raft_packed_server.specs.Began.{built_end, prepared_for}
+
+not_below : (a : ℕ) → nat_lt a a ≡ false
+not_below a = grind (arith, nat_tests)
+
+-- what holds anyway, and what isn't there
+pub on_any : {T E P : Type 0} (r : Result T E) → P → OnOk r P
+on_any (Ok x) p = p
+on_any (Err e) p = tt
+
+pub none_there : {A : Type 0} (o : Option A) → ((x : A) → o ≡ Some x → ⊥) → o ≡ None
+none_there None h = refl
+none_there (Some x) h = absurd (h x refl)
 
 module _ {S : Type 0} where
   -- a node with this engine, and this noted
   abbrev with_parts : Option EngineView → Option (Packed S) → PackedNode S → PackedNode S
   with_parts o q n = record n { engine = o; noted = q }
-
-  abbrev inner : Packed S → Option (Packed S) → Packed S
-  inner p None = p
-  inner p (Some x) = x
 
   abbrev replaced : Packed S → PackedStore S → PackedStore S
   replaced p t = record t { meta = packed_meta p; snap = p }
@@ -52,51 +65,65 @@ module _ {S : Type 0} where
       go true is = same (nat_lt p.end p.end)
       go false is = ap (λ (b : Bool). if b then replaced p t else t) is
 
-  -- What the end of a build keeps
-  call_by : (o : Option EngineView) (q : Option (Packed S)) (n : PackedNode S) → ends_build (with_parts o q n) ≡ false
-      → packed_call_effect FinishSnapshot (with_parts o q n) ≡ Unchanged
-  call_by None q n h = refl
-  call_by (Some e) None n h = refl
-  call_by (Some e) (Some p) n h = go (is_some (refusals_of_spent e.machine)) h
+  -- What the end of a build keeps: nothing, or what is noted, which ends there
+  pub record Ends (n : PackedNode S) (end : ℕ) : Type 0 where
+    pub noted : Packed S
+    pub is : n.noted ≡ Some noted
+    pub at : noted.end ≡ end
+    pub built : packed_call_effect FinishSnapshot n ≡ Built noted
+    pub prepared : prepared_for FinishSnapshot n ≡ packed_kept_early n
+
+  none_by : (o : Option EngineView) (q : Option (Packed S)) (n : PackedNode S) → built_end (with_parts o q n) ≡ None
+      → (packed_call_effect FinishSnapshot (with_parts o q n) ≡ Unchanged) × (prepared_for FinishSnapshot (with_parts o q n) ≡ with_parts o q n)
+  none_by None q n h = (refl, refl)
+  none_by (Some e) None n h = (refl, refl)
+  none_by (Some e) (Some p) n h = go (is_some (refusals_of_spent e.machine)) h
     where
-      go : (b : Bool) → (true && not b) ≡ false → ◌≡◌ {A = PackedBegan (Packed S)} (if b then Unchanged else Built p) Unchanged
-      go true h = refl
+      go : (b : Bool) → ◌≡◌ {A = Option ℕ} (if true && not b then Some p.end else None) None
+          → ◌≡◌ {A = PackedBegan (Packed S)} (if b then Unchanged else Built p) Unchanged
+          × ◌≡◌ {A = PackedNode S} (if true && not b then packed_kept_early (with_parts (Some e) (Some p) n) else with_parts (Some e) (Some p) n)
+          (with_parts (Some e) (Some p) n)
+      go true h = (refl, refl)
       go false h = absurd cc
 
-  built_by : (o : Option EngineView) (q : Option (Packed S)) (n : PackedNode S) (p : Packed S) → ends_build (with_parts o q n) ≡ true → q ≡ Some p
-      → Built p ≡ packed_call_effect FinishSnapshot (with_parts o q n)
-  built_by None q n p h is = absurd cc
-  built_by (Some e) None n p h is = absurd cc
-  built_by (Some e) (Some x) n p h is = ap Built (sym (ap (inner x) is)) ∙ go (is_some (refusals_of_spent e.machine)) h
+  some_by : (o : Option EngineView) (q : Option (Packed S)) (n : PackedNode S) (end : ℕ) → built_end (with_parts o q n) ≡ Some end
+      → Ends (with_parts o q n) end
+  some_by None q n end h = absurd cc
+  some_by (Some e) None n end h = absurd cc
+  some_by (Some e) (Some p) n end h = record { noted = p; is = refl; at = at; built = both.0; prepared = both.1 }
     where
-      go : (b : Bool) → (true && not b) ≡ true → ◌≡◌ {A = PackedBegan (Packed S)} (Built x) (if b then Unchanged else Built x)
-      go true h = absurd cc
-      go false h = refl
+      begun_if : Bool → PackedBegan (Packed S)
+      begun_if b = if b then Unchanged else Built p
 
-  longer_by : (o : Option EngineView) (q : Option (Packed S)) (n : PackedNode S) → ends_build (with_parts o q n) ≡ true → is_longer (with_parts o q n) ≡ true
-      → Built (packed_kept_early (with_parts o q n)).store.snap ≡ packed_call_effect FinishSnapshot (with_parts o q n)
-  longer_by o None n h longer = absurd cc
-  longer_by o (Some p) n h longer =
-      ap (λ (b : Bool). Built (if b then replaced p n.store else n.store).snap) longer ∙ built_by o (Some p) n p h refl
+      kept_if : Bool → PackedNode S
+      kept_if b = if true && not b then packed_kept_early (with_parts (Some e) (Some p) n) else with_parts (Some e) (Some p) n
 
-  shorter_by : (q : Option (Packed S)) (n : PackedNode S) → is_longer (record n { noted = q }) ≡ false
-      → packed_kept_early (record n { noted = q }) ≡ record n { noted = q }
-  shorter_by None n shorter = refl
-  shorter_by (Some p) n shorter =
-      ap (λ (b : Bool). record n { noted = Some p; store = if b then replaced p n.store else n.store }) shorter
+      end_if : Bool → Option ℕ
+      end_if b = if true && not b then Some p.end else None
 
-  pub nothing_ends : (n : PackedNode S) → ends_build n ≡ false → packed_call_effect FinishSnapshot n ≡ Unchanged
-  nothing_ends n h = call_by n.engine n.noted n h
+      fine : (b : Bool) → end_if b ≡ Some end → b ≡ false
+      fine true h = absurd cc
+      fine false h = refl
 
-  pub noted_is_built : (n : PackedNode S) (p : Packed S) → ends_build n ≡ true → n.noted ≡ Some p → Built p ≡ packed_call_effect FinishSnapshot n
-  noted_is_built n p h is = built_by n.engine n.noted n p h is
+      ends : (b : Bool) → end_if b ≡ Some end → p.end ≡ end
+      ends true h = absurd cc
+      ends false h = cc
 
-  pub longer_is_built : (n : PackedNode S) → ends_build n ≡ true → is_longer n ≡ true
-      → Built (packed_kept_early n).store.snap ≡ packed_call_effect FinishSnapshot n
-  longer_is_built n h longer = longer_by n.engine n.noted n h longer
+      at : p.end ≡ end
+      at = ends (is_some (refusals_of_spent e.machine)) h
 
-  pub shorter_stays : (n : PackedNode S) → is_longer n ≡ false → packed_kept_early n ≡ n
-  shorter_stays n shorter = shorter_by n.noted n shorter
+      both : (begun_if (is_some (refusals_of_spent e.machine)) ≡ Built p)
+          × (kept_if (is_some (refusals_of_spent e.machine)) ≡ packed_kept_early (with_parts (Some e) (Some p) n))
+      both =
+          let no : is_some (refusals_of_spent e.machine) ≡ false = fine (is_some (refusals_of_spent e.machine)) h in
+          (ap begun_if no, ap kept_if no)
+
+  pub nothing_ends : (n : PackedNode S) → built_end n ≡ None
+      → (packed_call_effect FinishSnapshot n ≡ Unchanged) × (prepared_for FinishSnapshot n ≡ n)
+  nothing_ends n h = none_by n.engine n.noted n h
+
+  pub ends : (n : PackedNode S) (end : ℕ) → built_end n ≡ Some end → Ends n end
+  ends n end h = some_by n.engine n.noted n end h
 
   -- What is the same of a node that is to end a build, and of one that has kept what it noted, is the same of one that is prepared
   by_parts : {X : Type 0} (f : PackedNode S → X) (o : Option EngineView) (q : Option (Packed S)) (n : PackedNode S)
@@ -143,6 +170,74 @@ module _ {S : Type 0} where
 
   noted_same : (n : PackedNode S) → (prepared_for FinishSnapshot n).noted ≡ n.noted
   noted_same n = prepared_same (λ act m. m.noted) FinishSnapshot n (λ e p fine. refl)
+
+  -- an act that neither starts a node nor ends a build
+  pub others_begin_nothing : (act : Act) (n : PackedNode S) → ((start : Start) → act ≡ Restart start → ⊥) → (act ≡ FinishSnapshot → ⊥)
+      → packed_call_effect act n ≡ Unchanged
+  others_begin_nothing Initialize n starts ends = refl
+  others_begin_nothing (Elect candidates) n starts ends = refl
+  others_begin_nothing (Take m) n starts ends = refl
+  others_begin_nothing (Propose values) n starts ends = refl
+  others_begin_nothing SendHeartbeat n starts ends = refl
+  others_begin_nothing (Fail target) n starts ends = refl
+  others_begin_nothing TriggerSnapshot n starts ends = refl
+  others_begin_nothing FinishSnapshot n starts ends = absurd (ends refl)
+  others_begin_nothing (TriggerPurge i) n starts ends = refl
+  others_begin_nothing (Restart start) n starts ends = absurd (starts start refl)
+  others_begin_nothing (ChangeLearners learners) n starts ends = refl
+  others_begin_nothing (ChangeMembership groups learners) n starts ends = refl
+  others_begin_nothing Read n starts ends = refl
+  others_begin_nothing StepDown n starts ends = refl
+  others_begin_nothing Stop n starts ends = refl
+
+-- How the log names that
+module _ {S : Type 0} (app : Application S) where
+  -- what has no snapshot names itself
+  pub unchanged_names : (t : PackedStore S) (b : PackedBegan (Named S)) (d : PackedBegan (Packed S)) → d ≡ Unchanged → b ≡ Unchanged
+      → IsBeganBy app t b d
+  unchanged_names t b d effect is =
+      subst (λ (x : PackedBegan (Packed S)). IsBeganBy app t b x) (sym effect) (subst (λ (x : PackedBegan (Named S)). IsBeganBy app t x Unchanged) (sym is) tt)
+
+  pub settled_names : (t : PackedStore S) (b : PackedBegan (Named S)) (d : PackedBegan (Packed S)) → d ≡ Settled → b ≡ Settled
+      → IsBeganBy app t b d
+  settled_names t b d effect is =
+      subst (λ (x : PackedBegan (Packed S)). IsBeganBy app t b x) (sym effect) (subst (λ (x : PackedBegan (Named S)). IsBeganBy app t x Settled) (sym is) tt)
+
+  pub nothing_names : (n : PackedNode S) (b : PackedBegan (Named S)) → built_end n ≡ None → b ≡ Unchanged
+      → IsBeganBy app n.store b (packed_call_effect FinishSnapshot n)
+  nothing_names n b none is =
+      unchanged_names n.store b (packed_call_effect FinishSnapshot n) (nothing_ends n none).0 is
+
+  pub end_names : (n : PackedNode S) (end : ℕ) (b : PackedBegan (Named S)) → built_end n ≡ Some end → IsNamedByEnd app n.store n.noted
+      → b ≡ Built (Folded end) → IsBeganBy app n.store b (packed_call_effect FinishSnapshot n)
+  end_names n end b some named is =
+      let e : Ends n end = ends n end some in
+      let own : IsNamedByEnd app n.store (Some e.noted) = subst (λ o. IsNamedByEnd app n.store o) e.is named in
+      subst (λ d. IsBeganBy app n.store b d) (sym e.built)
+      (subst (λ x. IsBeganBy app n.store x (Built e.noted)) (sym is)
+      (subst (λ i. packed_keep_snapshot (folded app n.store i) n.store ≡ packed_keep_snapshot e.noted n.store) e.at own))
+
+  -- what was kept leaves the same, kept again
+  kept_is : (p : Packed S) (t : PackedStore S) → packed_keep_snapshot (packed_keep_snapshot p t).snap t ≡ packed_keep_snapshot p t
+  kept_is p t = go (nat_lt t.snap.end p.end) refl
+    where
+      go : (b : Bool) → nat_lt t.snap.end p.end ≡ b
+          → ◌≡◌ {A = PackedStore S} (packed_keep_snapshot (if b then replaced p t else t).snap t) (if b then replaced p t else t)
+      go true is = ap (λ (b : Bool). if b then replaced p t else t) is
+      go false is = ap (λ (b : Bool). if b then replaced t.snap t else t) (not_below t.snap.end)
+
+  kept_noted : (t : PackedStore S) (o : Option (Packed S)) (p : Packed S) → o ≡ Some p → kept_if_noted o t ≡ packed_keep_snapshot p t
+  kept_noted t o p is = ap (λ x. kept_if_noted x t) is
+
+  pub whole_names : (n m : PackedNode S) (end : ℕ) (b : PackedBegan (Named S)) → built_end n ≡ Some end → m ≡ packed_kept_early n
+      → b ≡ Built (Whole m.store.snap) → IsBeganBy app n.store b (packed_call_effect FinishSnapshot n)
+  whole_names n m end b some early is =
+      let e : Ends n end = ends n end some in
+      let there : m.store ≡ packed_keep_snapshot e.noted n.store =
+      ap (λ (x : PackedNode S). x.store) early ∙ kept_noted n.store n.noted e.noted e.is in
+      subst (λ d. IsBeganBy app n.store b d) (sym e.built)
+      (subst (λ x. IsBeganBy app n.store x (Built e.noted)) (sym is)
+      (ap (λ (u : PackedStore S). packed_keep_snapshot u.snap n.store) there ∙ kept_is e.noted n.store))
 
 module _ {S : Type 0} (app : Application S) where
   abbrev pair_of : Option ℕ → PackedNode S → Option ℕ × PackedNode S

@@ -11,37 +11,65 @@ use Rattle.proof_logs.specs.Batches.{IsBatchOf, bytes_of, file_of}
 use Rattle.raft_packed_server.specs.Fits.{FitsAt}
 use Rattle.proof_packed.specs.Stores.{Application}
 use Rattle.raft_packed_wire.specs.Checkpoints.{checkpoint}
-use Rattle.proof_packed_servers.specs.Servers.{packed_new_disk, packed_with_record}
+use Rattle.raft_packed_wire.specs.Named.{StandFor}
+use Rattle.raft_packed_wire.specs.Records.{packed_on_disk}
+use Rattle.raft_packed_wire.proofs.Checkpoints.{order_restores}
+use Rattle.raft_packed_wire.proofs.Standing.{none_stand}
+use Rattle.proof_packed_servers.specs.Checkpoints.{packed_checkpointed, packed_left_by}
+use Rattle.proof_packed_servers.specs.Servers.{PackedDisk, PackedServer, packed_new_disk, packed_with_record, packed_with_records}
 use Rattle.raft_packed_server.specs.declared.batch.Written.{Written}
 use Rattle.raft_packed_server.specs.declared.serving.Serving.{Serving}
 use Rattle.raft_packed_server.specs.Checkpoints.{IsClear, IsNewLog, NewLogsGoOn, first_batch, with_new_log}
-use Rattle.raft_packed_server.specs.Logs.{logged_by}
-use Rattle.raft_packed_server.specs.Represents.{AreUnwritten, AreWaiting}
+use Rattle.raft_packed_server.specs.Logs.{left_by, logged_by}
+use Rattle.raft_packed_server.specs.Represents.{AreUnwritten, AreWaiting, Stands}
 use Rattle.raft_packed_server.proofs.Coded.{some_bytes}
 use Rattle.raft_packed_server.proofs.Waiting.{unwritten}
 
 pub new_logs_go_on : {S : Type 0} (app : Application S) (c : Codec S) → NewLogsGoOn app c
 new_logs_go_on {S = S} app c log s v w stands new = record {
-  waits = sym are.records ∙ new.clear.1;
+  waits = none_left;
   stands = record {
     node = stands.node;
     reserved = stands.reserved;
-    waiting = subst (λ o. AreWaiting o (with_new_log c log v) s.waiting) (sym new.clear.0)
-        (record { steps = are.steps; records = are.records; outputs = are.outputs });
+    waiting = subst (λ o. AreWaiting app o there (with_new_log c log v) s.waiting) (sym new.clear.0)
+        (record { steps = are.steps; records = empty; outputs = are.outputs });
+    same =
+        ap (λ rs. packed_on_disk app (packed_with_records app rs there).store) none_left
+        ∙ order_restores app s.reserved s.node.store stands.ordered;
+    ordered = stands.ordered;
   };
   has = record {
     writable = (new.batch, tt);
+    records = checkpoint v.reserved v.node.store ∷ [];
+    stand = (record { moment = refl; began = tt; changes = refl }, tt);
     disk = sym made;
   };
   ends = record { file = inr (new.bytes, refl); tail = refl };
 }
   where
-    are : AreUnwritten v s.waiting
-    are = unwritten s v new.clear.0 stands
+    there : PackedDisk S
+    there = packed_with_record app (checkpoint s.reserved s.node.store) (packed_new_disk app)
+
+    are : AreUnwritten app s.disk v s.waiting
+    are = unwritten app s v new.clear.0 stands
+
+    none_left : packed_left_by s.waiting ≡ []
+    none_left = none_stand app s.disk.store (left_by s.waiting) (subst (λ rs. StandFor app s.disk.store rs (left_by s.waiting)) new.clear.1 are.records)
+
+    empty : StandFor app there.store v.records (left_by s.waiting)
+    empty =
+        subst (StandFor app there.store v.records) (sym none_left) (subst (λ rs. StandFor app there.store rs []) (sym new.clear.1) tt)
 
     made : packed_with_record app (checkpoint v.reserved v.node.store) (packed_new_disk app)
         ≡ packed_with_record app (checkpoint s.reserved s.node.store) (packed_new_disk app)
     made = λ i. packed_with_record app (checkpoint (stands.reserved i) (stands.node i).store) (packed_new_disk app)
+
+-- its disk is the old one, but for what no start reads
+pub checkpoint_alike : {S : Type 0} (app : Application S) (s : PackedServer S) (v : Serving S) → Stands app s v → packed_left_by s.waiting ≡ []
+    → packed_on_disk app s.disk.store ≡ packed_on_disk app (packed_checkpointed app s).disk.store
+checkpoint_alike app s v stands none =
+    sym (ap (λ rs. packed_on_disk app (packed_with_records app rs s.disk).store) none)
+    ∙ (stands.same ∙ sym (order_restores app s.reserved s.node.store stands.ordered))
 
 -- ---- its bytes
 

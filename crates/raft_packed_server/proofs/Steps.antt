@@ -1,6 +1,6 @@
 -- What a step of the code does is what the model says: with records of its own it does the same as behind what was said before.
-use Rattle.std.proofs.Common.{ℕ, ◌≡◌, ◌∙◌, List, [], ◌∷◌, ◌++◌, Option, None, Some, refl, sym, ap, append_assoc}
-use Rattle.std.specs.Prelude.{◌+◌, fold, map, nat_le}
+use Rattle.std.proofs.Common.{ℕ, ◌≡◌, ◌∙◌, List, [], ◌∷◌, ◌++◌, Option, None, Some, refl, sym, ap, subst, append_assoc}
+use Rattle.std.specs.Prelude.{◌+◌, Bool, fold, map, nat_le}
 use Rattle.std.specs.Option.{option_map, option_to_list}
 use Rattle.std.proofs.lemmas.List.{append-nil}
 use Rattle.raft_store.specs.declared.entry.Entry.{Entry}
@@ -23,14 +23,18 @@ use Rattle.proof_packed.specs.Stores.{Application, Packed}
 use Rattle.raft_packed_wire.specs.raft_packed_node.Effects.{scene}
 use Rattle.raft_packed_wire.specs.declared.record.PackedBegan.{PackedBegan}
 use Rattle.raft_packed_wire.specs.declared.record.PackedBegan.TheVariants.{Settled, Unchanged}
-use Rattle.raft_packed_wire.specs.declared.record.PackedChange.{PackedChange}
+use Rattle.raft_packed_wire.specs.declared.named.Named.{Named}
+use Rattle.raft_packed_wire.specs.declared.record.NamedRecord.{NamedRecord}
 use Rattle.raft_packed_wire.specs.declared.record.PackedRecord.{PackedRecord}
+use Rattle.raft_packed_wire.specs.Named.{IsBeganBy, IsNamedBy, StandFor}
 use Rattle.raft_packed_wire.specs.Records.{packed_change_of, packed_changes_of, with_snapshot}
 use Rattle.proof_packed_servers.specs.Servers.{PackedStep, packed_build_effect, packed_call_effect, packed_joined, packed_left_of}
-use Rattle.proof_packed_servers.specs.Servers.{packed_played_alone, packed_step_began, packed_step_commands}
+use Rattle.proof_packed_servers.specs.Servers.{packed_disk_record, packed_node_after, packed_played_alone, packed_step_began, packed_step_commands}
 use Rattle.proof_packed_servers.proofs.Frame.{outcome_behind, same_commands, same_played}
 use Rattle.raft_packed_server.specs.declared.serving.Serving.{Serving}
-use Rattle.raft_packed_server.specs.Views.{ChangesView, step_taken}
+use Rattle.raft_packed_server.specs.Began.{named_left_of}
+use Rattle.raft_packed_server.specs.Views.{ChangesView, IsTaken}
+use Rattle.raft_packed_server.proofs.Seen.{left_stands}
 
 -- ---- what the step's calls are about to make of the store
 
@@ -112,74 +116,71 @@ module _ {S : Type 0} where
       (append_assoc seen.changes (option_to_list (packed_change_of seen.brought c)) (packed_changes_of seen.brought cs)
       ∙ ap (λ xs. seen.changes ++ xs) (change_first seen.brought (change_of c) (changes_of cs)))
 
--- the parts of a step of the code, whose record is added to the others if it leaves one: what it did, its commands, and what its calls were
--- about to make of the store
-parts_are : {S : Type 0} (old : Serving S) (brought : Packed S) (done : Outcome × PackedScene S) (commands : List WorldCommand)
-    (begins : PackedBegan (Packed S)) (outcome : Outcome) (node : PackedNode S) (said : PackedRecords S)
-    (changes : List (PackedChange (Packed S))) (began : PackedBegan (Packed S)) (reserved steps : ℕ) (records : List (PackedRecord (Packed S)))
-    → ◌≡◌ {A = Outcome × PackedScene S} (outcome, scene node said) (outcome_behind old.outputs done)
-    → changes ≡ packed_changes_of brought commands
-    → began ≡ begins
-    → reserved ≡ reserved_for node.moment old.reserved
-    → steps ≡ old.steps + 1
-    → records ≡ old.records ++ packed_left_of (nat_le node.moment old.reserved)
-    (record { moment = reserved_for node.moment old.reserved; began = began; changes = changes })
-    → ◌≡◌ {A = Outcome × Serving S}
-    (outcome, record old { node = node; reserved = reserved; steps = steps; records = records; outputs = said }) (
-      done.0,
-      record old {
-        node = done.1.node;
-        reserved = reserved_for done.1.node.moment old.reserved;
-        steps = old.steps + 1;
-        records =
-            old.records ++ packed_left_of (nat_le done.1.node.moment old.reserved)
-            (record { moment = reserved_for done.1.node.moment old.reserved; began = begins; changes = packed_changes_of brought commands });
-        outputs = packed_joined old.outputs done.1.records;
-      },
-    )
-parts_are {S = S} old brought done commands begins outcome node said changes began reserved steps records does changed calls upto counted pushed =
-    λ i. (
-      (does i).0,
-      record old {
-        node = (does i).1.node;
-        reserved = (upto ∙ ap (λ n. reserved_for n old.reserved) same) i;
-        steps = counted i;
-        records = (pushed ∙ ap (λ rs. old.records ++ rs) left) i;
-        outputs = (does i).1.records;
-      },
-    )
-  where
-    same : node.moment ≡ done.1.node.moment
-    same = ap (λ (p : Outcome × PackedScene S). p.1.node.moment) does
+-- the parts of a step of the code, whose record is added to the others, as the log names it, if it leaves one
+module _ {S : Type 0} (old : Serving S) (brought : Packed S) (done : Outcome × PackedScene S) (named : List (NamedRecord S)) where
+  abbrev done_by : Serving S
+  done_by = record old {
+    node = done.1.node;
+    reserved = reserved_for done.1.node.moment old.reserved;
+    steps = old.steps + 1;
+    records = old.records ++ named;
+    outputs = packed_joined old.outputs done.1.records;
+  }
 
-    left : packed_left_of (nat_le node.moment old.reserved)
-        (record { moment = reserved_for node.moment old.reserved; began = began; changes = changes })
-        ≡ packed_left_of (nat_le done.1.node.moment old.reserved)
-        (record { moment = reserved_for done.1.node.moment old.reserved; began = begins; changes = packed_changes_of brought commands })
-    left = λ i. packed_left_of (nat_le (same i) old.reserved)
-        (record { moment = reserved_for (same i) old.reserved; began = calls i; changes = changed i })
+  parts_are : (outcome : Outcome) (node : PackedNode S) (said : PackedRecords S) (reserved steps : ℕ) (records : List (NamedRecord S))
+      → ◌≡◌ {A = Outcome × PackedScene S} (outcome, scene node said) (outcome_behind old.outputs done)
+      → reserved ≡ reserved_for node.moment old.reserved
+      → steps ≡ old.steps + 1
+      → records ≡ old.records ++ named
+      → ◌≡◌ {A = Outcome × Serving S}
+      (outcome, record old { node = node; reserved = reserved; steps = steps; records = records; outputs = said }) (done.0, done_by)
+  parts_are outcome node said reserved steps records does upto counted pushed =
+      λ i. (
+        (does i).0,
+        record old {
+          node = (does i).1.node;
+          reserved = (upto ∙ ap (λ (p : Outcome × PackedScene S). reserved_for p.1.node.moment old.reserved) does) i;
+          steps = counted i;
+          records = pushed i;
+          outputs = (does i).1.records;
+        },
+      )
 
 -- such a step is one of the model
 pub step_is : {S : Type 0} (app : Application S) (given : Given) (step : PackedStep S) (old : Serving S) (outcome : Outcome) (node : PackedNode S)
     (said : PackedRecords S)
-    (seen : ChangesView S) (began : PackedBegan (Packed S)) (reserved steps : ℕ) (records : List (PackedRecord (Packed S)))
+    (seen : ChangesView S) (began : PackedBegan (Named S)) (reserved steps : ℕ) (records : List (NamedRecord S))
     → (outcome, scene node said) ≡ packed_played app given step.act step.brought (event_at (event.Read 0) step.at) (scene old.node old.outputs)
     → seen ≡ fold sees (record { brought = step.brought; changes = [] })
     (packed_commands_at app given step.act step.brought (event_at (event.Read 0) step.at) (scene old.node old.outputs))
-    → began ≡ packed_call_effect step.act old.node
+    → IsBeganBy app old.node.store began (packed_call_effect step.act old.node)
     → reserved ≡ reserved_for node.moment old.reserved
     → steps ≡ old.steps + 1
-    → records ≡ old.records ++ packed_left_of (nat_le node.moment old.reserved)
+    → records ≡ old.records ++ named_left_of (nat_le node.moment old.reserved)
     (record { moment = reserved_for node.moment old.reserved; began = began; changes = seen.changes })
-    → (outcome, record old { node = node; reserved = reserved; steps = steps; outputs = said; records = records }) ≡ step_taken app given step old
-step_is {S = S} app given step old outcome node said seen began reserved steps records does watched calls upto counted pushed =
-    parts_are old step.brought (packed_played_alone app given old.node step) (packed_step_commands app given old.node step)
-    (packed_step_began app old.node step) outcome node said seen.changes began reserved steps records
-    (does ∙ same_played app old.outputs given old.node step)
-    changed
-    (calls ∙ sym (began_is app step.brought step.at old.node step.act))
-    upto counted pushed
+    → IsTaken app given step old outcome (record old { node = node; reserved = reserved; steps = steps; outputs = said; records = records })
+step_is {S = S} app given step old outcome node said seen began reserved steps records does watched calls upto counted pushed = record {
+  named = left;
+  stand =
+      subst (λ (b : Bool). StandFor app old.node.store left (packed_left_of b theirs)) (ap (λ m. nat_le m old.reserved) same)
+      (left_stands app old.node.store (nat_le node.moment old.reserved) ours theirs is_named);
+  is =
+      parts_are old step.brought (packed_played_alone app given old.node step) left outcome node said reserved steps records
+      (does ∙ same_played app old.outputs given old.node step) upto counted pushed;
+}
   where
+    ours : NamedRecord S
+    ours = record { moment = reserved_for node.moment old.reserved; began = began; changes = seen.changes }
+
+    left : List (NamedRecord S)
+    left = named_left_of (nat_le node.moment old.reserved) ours
+
+    theirs : PackedRecord (Packed S)
+    theirs = packed_disk_record app given old.reserved old.node step
+
+    same : node.moment ≡ (packed_node_after app given old.node step).moment
+    same = ap (λ (p : Outcome × PackedScene S). p.1.node.moment) (does ∙ same_played app old.outputs given old.node step)
+
     changed : seen.changes ≡ packed_changes_of step.brought (packed_step_commands app given old.node step)
     changed =
         ap (λ (v : ChangesView S). v.changes)
@@ -187,3 +188,10 @@ step_is {S = S} app given step old outcome node said seen began reserved steps r
         ∙ seen_all (packed_commands_at app given step.act step.brought (event_at (event.Read 0) step.at) (scene old.node old.outputs))
         (record { brought = step.brought; changes = [] }))
         ∙ ap (packed_changes_of step.brought) (same_commands app old.outputs given old.node step)
+
+    is_named : IsNamedBy app old.node.store ours theirs
+    is_named = record {
+      moment = ap (λ m. reserved_for m old.reserved) same;
+      began = subst (IsBeganBy app old.node.store began) (sym (began_is app step.brought step.at old.node step.act)) calls;
+      changes = changed;
+    }

@@ -4,9 +4,9 @@ use Rattle.raft_frames.specs.declared.header.LogId.{LogId}
 use Rattle.raft_frames.specs.Format.{after, start}
 use Rattle.raft_codec.specs.Codec.{Codec}
 use Rattle.proof_logs.specs.Batches.{IsBatchOf, bytes_of, file_of}
-use Rattle.proof_packed.specs.Stores.{Application, Packed}
-use Rattle.raft_packed_wire.specs.declared.record.PackedRecord.{PackedRecord}
-use Rattle.raft_packed_wire.specs.Checkpoints.{checkpoint}
+use Rattle.proof_packed.specs.Stores.{Application}
+use Rattle.raft_packed_wire.specs.declared.record.NamedRecord.{NamedRecord}
+use Rattle.raft_packed_wire.specs.Checkpoints.{named_checkpoint}
 use Rattle.proof_packed_servers.specs.Checkpoints.{packed_checkpointed, packed_left_by}
 use Rattle.proof_packed_servers.specs.Servers.{PackedServer}
 use Rattle.raft_packed_server.specs.declared.batch.Written.{Written}
@@ -16,10 +16,10 @@ use Rattle.raft_packed_server.specs.Logs.{HasLog, logged_by}
 use Rattle.raft_packed_server.specs.Represents.{Stands}
 
 -- a checkpoint of the node's store, while as many moments are reserved; and the new log's first batch, which has it alone
-abbrev pub checkpoint_of : {S : Type 0} → Serving S → PackedRecord (Packed S)
-checkpoint_of v = checkpoint v.reserved v.node.store
+abbrev pub checkpoint_of : {S : Type 0} → Serving S → NamedRecord S
+checkpoint_of v = named_checkpoint v.reserved v.node.store
 
-abbrev pub first_batch : {S : Type 0} → Serving S → List (PackedRecord (Packed S))
+abbrev pub first_batch : {S : Type 0} → Serving S → List (NamedRecord S)
 first_batch v = checkpoint_of v ∷ []
 
 -- no frame is on its way, and no record waits
@@ -49,9 +49,9 @@ module _ {S : Type 0} (app : Application S) (c : Codec S) where
   -- as if its log were the old one (`servers_go_on_from_checkpoints`).
   pub record GoesOnWithNewLog (log : LogId) (s : PackedServer S) (v : Serving S) (w : Written) : Type 0 where
     pub waits : packed_left_by s.waiting ≡ []
-    pub stands : Stands (packed_checkpointed app s) (with_new_log c log v)
+    pub stands : Stands app (packed_checkpointed app s) (with_new_log c log v)
     pub has : HasLog app c (packed_checkpointed app s) (first_batch v ∷ [])
     pub ends : IsAtEnd c log (first_batch v ∷ []) w.bytes.items (with_new_log c log v)
 
   abbrev pub NewLogsGoOn : Type 0
-  NewLogsGoOn = (log : LogId) (s : PackedServer S) (v : Serving S) (w : Written) → Stands s v → IsNewLog c log v w → GoesOnWithNewLog log s v w
+  NewLogsGoOn = (log : LogId) (s : PackedServer S) (v : Serving S) (w : Written) → Stands app s v → IsNewLog c log v w → GoesOnWithNewLog log s v w

@@ -9,14 +9,16 @@ use Rattle.raft_codec.specs.Codec.{Codec, Refuses}
 use Rattle.proof_logs.specs.Batches.{HoldsOf, read_in}
 use Rattle.proof_packed.specs.Stores.{Application, Packed}
 use Rattle.raft_packed_wire.specs.raft_packed_node.Effects.{nothing_recorded}
+use Rattle.raft_packed_wire.specs.declared.record.NamedRecord.{NamedRecord}
 use Rattle.raft_packed_wire.specs.declared.record.PackedRecord.{PackedRecord}
-use Rattle.proof_packed_servers.specs.Servers.{PackedDisk, packed_started, packed_stopped_node, packed_with_records}
+use Rattle.raft_packed_wire.specs.Named.{StandFor}
+use Rattle.proof_packed_servers.specs.Servers.{PackedDisk, packed_new_disk, packed_started, packed_stopped_node}
 use Rattle.raft_packed_server.specs.declared.error.OpenError.{OpenError}
 use Rattle.raft_packed_server.specs.declared.error.OpenError.TheVariants as errors
 use Rattle.raft_packed_server.specs.declared.recovery.Recovery.{Recovery}
 use Rattle.raft_packed_server.specs.declared.serving.Serving.{Serving}
 use Rattle.raft_packed_server.specs.declared.server.Opened.{Opened}
-use Rattle.raft_packed_server.specs.Logs.{logged_by, restored}
+use Rattle.raft_packed_server.specs.Logs.{kept_on_disk, logged_by, restored, with_all_named}
 use Rattle.raft_packed_server.specs.Represents.{Represents}
 
 -- the next frame goes there, behind the header if the log has none, and no other is on its way
@@ -34,18 +36,20 @@ module _ {S : Type 0} (app : Application S) (c : Codec S) where
   -- ends
   pub record OpensOn (given : Given) (id : LogId) (log : List ℕ) (at : ℕ) (o : Opened S) : Type 0 where
     pub contents : Contents
+    pub named : List (NamedRecord S)
+    pub holds : HoldsOf (logged_by c) id log contents named
     pub records : List (PackedRecord (Packed S))
-    pub holds : HoldsOf (logged_by c) id log contents records
-    pub starts : Represents (packed_started app given id.node at (restored app records)) o.server
+    pub stand : StandFor app (packed_new_disk app).store named records
+    pub starts : Represents app (packed_started app given id.node at (restored app records)) o.server
     pub end : o.end ≡ contents.end
     pub tail : GoesOn o.server.serving (if nat_eq o.end 0 then Some id else None) contents.tail
 
-  -- what a log gives back: what its records make, and where it goes on
+  -- what a log gives back: what its records make, but for what no start reads, and where it goes on
   pub record IsRecovery (id : LogId) (log : List ℕ) (r : Recovery S) : Type 0 where
     pub contents : Contents
-    pub records : List (PackedRecord (Packed S))
-    pub holds : HoldsOf (logged_by c) id log contents records
-    pub disk : r.disk ≡ restored app records
+    pub named : List (NamedRecord S)
+    pub holds : HoldsOf (logged_by c) id log contents named
+    pub disk : kept_on_disk app r.disk ≡ with_all_named app named (packed_new_disk app)
     pub end : r.end ≡ contents.end
     pub tail : r.tail ≡ contents.tail
 
@@ -57,7 +61,7 @@ module _ {S : Type 0} (app : Application S) (c : Codec S) where
       (contents : Contents) × (read id log ≡ Ok contents) × Refuses (read_in (logged_by c) contents.payloads) e
   IsRefused id log (errors.Replay e) = (contents : Contents) × (read id log ≡ Ok contents)
   IsRefused id log (errors.Start e) =
-      (contents : Contents) × (records : List (PackedRecord (Packed S))) × HoldsOf (logged_by c) id log contents records
+      (contents : Contents) × (named : List (NamedRecord S)) × HoldsOf (logged_by c) id log contents named
 
   abbrev pub RecoversLog : LogId → List ℕ → Result (Recovery S) OpenError → Type 0
   RecoversLog id log (Ok r) = IsRecovery id log r
@@ -85,8 +89,9 @@ unstarted id r =
 
 module _ {S : Type 0} (app : Application S) where
   -- what records, or what are to be records, made of what was recovered before
-  abbrev pub Recovers : {A : Type 0} → Result (List (PackedRecord (Packed S))) DecodeError → PackedDisk S → Result A OpenError → PackedDisk S → Type 0
-  Recovers records old (Ok _) new = (rs : List (PackedRecord (Packed S))) × (records ≡ Ok rs) × (new ≡ packed_with_records app rs old)
-  Recovers records old (Err (errors.Record e)) new = Refuses records e
-  Recovers records old (Err (errors.Replay e)) new = Unit {0}
-  Recovers records old (Err _) new = ⊥
+  abbrev pub Recovers : {A : Type 0} → Result (List (NamedRecord S)) DecodeError → PackedDisk S → Result A OpenError → PackedDisk S → Type 0
+  Recovers named old (Ok _) new =
+      (rs : List (NamedRecord S)) × (named ≡ Ok rs) × (kept_on_disk app new ≡ with_all_named app rs (kept_on_disk app old))
+  Recovers named old (Err (errors.Record e)) new = Refuses named e
+  Recovers named old (Err (errors.Replay e)) new = Unit {0}
+  Recovers named old (Err _) new = ⊥

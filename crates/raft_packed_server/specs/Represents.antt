@@ -7,41 +7,52 @@ use Rattle.proof_logs.specs.Batches.{IsBatchOf}
 use Rattle.proof_packed.specs.Nodes.{PackedRecords}
 use Rattle.proof_packed.specs.Stores.{Application}
 use Rattle.raft_packed_wire.specs.raft_packed_node.Effects.{nothing_recorded}
-use Rattle.proof_packed_servers.specs.Servers.{PackedServer, PackedStep, PackedWaitingStep, packed_flushed_first, packed_joined, packed_played_alone}
-use Rattle.proof_packed_servers.specs.Servers.{packed_with_step}
+use Rattle.raft_packed_wire.specs.Checkpoints.{AreInOrder}
+use Rattle.raft_packed_wire.specs.Named.{StandFor}
+use Rattle.raft_packed_wire.specs.Records.{packed_on_disk}
+use Rattle.proof_packed_servers.specs.Servers.{PackedDisk, PackedServer, PackedStep, PackedWaitingStep, packed_flushed_first, packed_joined}
+use Rattle.proof_packed_servers.specs.Servers.{packed_played_alone, packed_with_records, packed_with_step}
 use Rattle.raft_packed_server.specs.declared.batch.Batch.{Batch}
 use Rattle.raft_packed_server.specs.declared.batch.Written.{Written}
 use Rattle.raft_packed_server.specs.declared.serving.Serving.{Serving}
-use Rattle.raft_packed_server.specs.Logs.{left_by, logged_by}
+use Rattle.raft_packed_server.specs.Logs.{first_records, left_by, logged_by}
 use Rattle.raft_packed_server.specs.Views.{ServerView, next_bytes, steps_released, with_batch}
 
 module _ {S : Type 0} where
+  -- it serves no more
+  abbrev pub stopped : ServerView S → ServerView S
+  stopped v = record v { serving = None }
+
   -- what waiting steps say, in their order
   abbrev pub said_by : List (PackedWaitingStep S) → PackedRecords S
   said_by [] = nothing_recorded
   said_by (w ∷ ws) = packed_joined w.outputs (said_by ws)
-
-  -- the steps whose records were not handed out are these
-  pub record AreUnwritten (v : Serving S) (ws : List (PackedWaitingStep S)) : Type 0 where
-    pub steps : v.steps ≡ length ws
-    pub records : v.records ≡ left_by ws
-    pub outputs : v.outputs ≡ said_by ws
 
   -- the steps of the batch are the first of these
   pub record AreWritten (b : Batch S) (ws : List (PackedWaitingStep S)) : Type 0 where
     pub steps : b.steps ≤ length ws
     pub outputs : b.outputs ≡ said_by (take b.steps ws)
 
-  abbrev pub AreWaiting : Option (Batch S) → Serving S → List (PackedWaitingStep S) → Type 0
-  AreWaiting None v ws = AreUnwritten v ws
-  AreWaiting (Some b) v ws = AreWritten b ws × AreUnwritten v (drop b.steps ws)
+module _ {S : Type 0} (app : Application S) where
+  -- the steps whose records were not handed out are these: the records stand for theirs, beside what is on disk before them
+  pub record AreUnwritten (d : PackedDisk S) (v : Serving S) (ws : List (PackedWaitingStep S)) : Type 0 where
+    pub steps : v.steps ≡ length ws
+    pub records : StandFor app d.store v.records (left_by ws)
+    pub outputs : v.outputs ≡ said_by ws
+
+  abbrev pub AreWaiting : Option (Batch S) → PackedDisk S → Serving S → List (PackedWaitingStep S) → Type 0
+  AreWaiting None d v ws = AreUnwritten d v ws
+  AreWaiting (Some b) d v ws = AreWritten b ws × AreUnwritten (packed_with_records app (first_records b.steps ws) d) v (drop b.steps ws)
 
   -- The server has the model's node, and its waiting steps: first those of the batch that was handed out. Its records reserve the
-  -- same moments. (What is on disk it doesn't know.)
+  -- same moments. Once all that waits is on disk, the disk has what the node's store has, whose entries are in order. (What is on disk the
+  -- server doesn't know.)
   pub record Stands (s : PackedServer S) (v : Serving S) : Type 0 where
     pub node : v.node ≡ s.node
     pub reserved : v.reserved ≡ s.reserved
-    pub waiting : AreWaiting v.written v s.waiting
+    pub waiting : AreWaiting v.written s.disk v s.waiting
+    pub same : packed_on_disk app (packed_with_records app (left_by s.waiting) s.disk).store ≡ packed_on_disk app s.node.store
+    pub ordered : AreInOrder 0 s.node.store.log
 
   -- a server that has stopped stands for none
   abbrev pub StandsFor : PackedServer S → Option (Serving S) → Type 0
@@ -53,15 +64,10 @@ module _ {S : Type 0} where
 
   -- What calls promise
 
-  -- it serves no more
-  abbrev pub stopped : ServerView S → ServerView S
-  stopped v = record v { serving = None }
-
   -- the model's server stays as it is
   abbrev pub Stays : {A E : Type 0} → ServerView S → Result A E → ServerView S → Type 0
   Stays old result new = OnOk result ((s : PackedServer S) → Represents s old → Represents s new)
 
-module _ {S : Type 0} (app : Application S) where
   -- a step is taken at the model's server too
   abbrev pub Takes : {E : Type 0} → PackedStep S → ServerView S → Result Outcome E → ServerView S → Type 0
   Takes step old result new =

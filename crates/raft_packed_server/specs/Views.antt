@@ -11,7 +11,8 @@ use Rattle.proof_packed.specs.Stores.{Application, Packed}
 use Rattle.raft_packed_wire.specs.raft_packed_node.declared.message.PackedAct.{PackedAct}
 use Rattle.raft_packed_wire.specs.raft_packed_node.Effects.{brought_by, nothing_recorded}
 use Rattle.raft_packed_wire.specs.declared.record.PackedChange.{PackedChange}
-use Rattle.raft_packed_wire.specs.declared.record.PackedRecord.{PackedRecord}
+use Rattle.raft_packed_wire.specs.declared.record.NamedRecord.{NamedRecord}
+use Rattle.raft_packed_wire.specs.Named.{StandFor}
 use Rattle.proof_logs.specs.Batches.{bytes_of}
 use Rattle.proof_packed_servers.specs.Servers.{PackedStep, packed_disk_records, packed_joined, packed_node_after, packed_outputs_of}
 use Rattle.proof_packed_servers.specs.Servers.{packed_played_alone, packed_reserved_after}
@@ -41,19 +42,33 @@ module _ {S : Type 0} (app : Application S) where
   abbrev pub step_of : PackedAct S → ℕ → PackedStep S
   step_of a at = record { act = a.act; brought = brought_by app a.snapshot; at = at }
 
-  -- a step is taken: its record, if it leaves one, and what it says wait behind those of the steps before it
-  abbrev pub with_taken : Given → PackedStep S → Serving S → Serving S
-  with_taken given s v = record v {
+  -- a step is taken: its record, if it leaves one, as the log names it, and what it says wait behind those of the steps before it
+  abbrev pub with_taken : Given → PackedStep S → List (NamedRecord S) → Serving S → Serving S
+  with_taken given s named v = record v {
     node = packed_node_after app given v.node s;
     reserved = packed_reserved_after app given v.reserved v.node s;
     steps = v.steps + 1;
-    records = v.records ++ packed_disk_records app given v.reserved v.node s;
+    records = v.records ++ named;
     outputs = packed_joined v.outputs (packed_outputs_of app given v.node s);
   }
 
   -- and its outcome
-  abbrev pub step_taken : Given → PackedStep S → Serving S → Outcome × Serving S
-  step_taken given s v = ((packed_played_alone app given v.node s).0, with_taken given s v)
+  abbrev pub step_taken : Given → PackedStep S → List (NamedRecord S) → Serving S → Outcome × Serving S
+  step_taken given s named v = ((packed_played_alone app given v.node s).0, with_taken given s named v)
+
+  -- records of the log stand for what a step leaves, beside the node's store
+  abbrev pub StandForStep : Given → PackedStep S → Serving S → List (NamedRecord S) → Type 0
+  StandForStep given s v named = StandFor app v.node.store named (packed_disk_records app given v.reserved v.node s)
+
+  pub record IsTaken (given : Given) (s : PackedStep S) (old : Serving S) (outcome : Outcome) (new : Serving S) : Type 0 where
+    pub named : List (NamedRecord S)
+    pub stand : StandForStep given s old named
+    pub is : ◌≡◌ {A = Outcome × Serving S} (outcome, new) (step_taken given s named old)
+
+  -- of a server that serves
+  abbrev pub IsWithTaken : Given → PackedStep S → Option (Serving S) → Option (Serving S) → Type 0
+  IsWithTaken given s None new = new ≡ None
+  IsWithTaken given s (Some old) new = (named : List (NamedRecord S)) × (StandForStep given s old named × (new ≡ Some (with_taken given s named old)))
 
 -- Bytes for the log's end
 
@@ -100,7 +115,7 @@ module _ {S : Type 0} where
       ]
 
   -- no record is on its way to the disk, and none waits
-  abbrev pub is_clear : Option (Batch S) → List (PackedRecord (Packed S)) → Bool
+  abbrev pub is_clear : Option (Batch S) → List (NamedRecord S) → Bool
   is_clear None [] = true
   is_clear _ _ = false
 

@@ -2,18 +2,19 @@
 
 ghost use Rattle.std.specs.Prelude.{◌≡◌, IfOk};
 ghost use Rattle.raft_codec.specs.Codec.{Writes};
-ghost use Rattle.raft_packed_wire.specs.Records.{packed_began};
+ghost use Rattle.raft_packed_wire.specs.Records.{named_began};
 ghost use Rattle.raft_packed_wire.specs.Values.{kept};
+ghost use Rattle.raft_packed_wire.specs.declared.named.Named.TheVariants as names;
 ghost use Rattle.raft_packed_wire.specs.declared.record.PackedBegan.TheVariants as made;
 ghost use Rattle.raft_packed_server.specs.Began.{is_unchanged};
 
 use raft_packed_wire::raft_packed::{Machine, Packed};
-use raft_packed_wire::{PackedBegan, write_built};
+use raft_packed_wire::{Named, PackedBegan, write_built};
 use std::alloc::{AllocError, Global};
 use std::marker::{Model, PhantomData};
 
-/// What the calls of a step make of the store before its first command, as its bytes: a contract sees what it is. A snapshot that was built
-/// isn't copied for it.
+/// What the calls of a step make of the store before its first command, as its bytes: a contract sees what it is, and how the log names a snapshot
+/// that was built. None is copied for it.
 #[derive(Drop)]
 pub struct Began<M: Machine> {
     is_unchanged: bool,
@@ -22,11 +23,11 @@ pub struct Began<M: Machine> {
 }
 
 impl<M: Machine> Model for Began<M> {
-    ghost use Rattle.proof_packed.specs.Stores.{Packed};
+    ghost use Rattle.raft_packed_wire.specs.declared.named.Named.{Named};
     ghost use Rattle.raft_packed_wire.specs.declared.record.PackedBegan.{PackedBegan};
     ghost use Rattle.raft_packed_server.specs.Began.{AreBytesOfBegan, began_in};
 
-    ghost Value = { PackedBegan (Packed M) };
+    ghost Value = { PackedBegan (Named M) };
 
     ghost view = { λ s. began_in M.codec s.bytes.items };
 
@@ -34,7 +35,7 @@ impl<M: Machine> Model for Began<M> {
 }
 
 /// Whether calls make nothing of the store.
-fn is_nothing<M: Machine>(began: &PackedBegan<Packed<M>>) -> bool
+fn is_nothing<M: Machine>(began: &PackedBegan<Named<M>>) -> bool
     ensures { result ≡ is_unchanged began.now }
 {
     matches!(began, PackedBegan::Unchanged)
@@ -42,7 +43,7 @@ fn is_nothing<M: Machine>(began: &PackedBegan<Packed<M>>) -> bool
 
 impl<M: Machine> Began<M> {
     /// This.
-    pub fn new(alloc: Global, began: &PackedBegan<Packed<M>>) -> Result<Self, AllocError>
+    pub fn new(alloc: Global, began: &PackedBegan<Named<M>>) -> Result<Self, AllocError>
         ensures { IfOk result (λ written. written ≡ began.now) }
     {
         let mut bytes = Vec::new(alloc);
@@ -54,9 +55,9 @@ impl<M: Machine> Began<M> {
         })
     }
 
-    /// This snapshot was built.
+    /// This snapshot was built, and the log has all of it.
     pub fn built(alloc: Global, snapshot: &Packed<M>) -> Result<Self, AllocError>
-        ensures { IfOk result (λ written. written ≡ made.Built snapshot.now) }
+        ensures { IfOk result (λ written. written ≡ made.Built (names.Whole snapshot.now)) }
     {
         let mut bytes = Vec::new(alloc);
         write_built(&mut bytes, snapshot)?;
@@ -76,7 +77,7 @@ impl<M: Machine> Began<M> {
 
     /// Appends it.
     pub fn write(&self, out: &mut Vec<u8>) -> Result<(), AllocError>
-        ensures { Writes (packed_began (kept M.codec)) self.now result out.old.items out.new.items }
+        ensures { Writes (named_began (kept M.codec)) self.now result out.old.items out.new.items }
     {
         out.extend_from_slice(&self.bytes)
     }

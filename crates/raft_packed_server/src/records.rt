@@ -27,12 +27,11 @@ pub struct Records<M: Machine> {
 
 impl<M: Machine> Model for Records<M> {
     ghost use Rattle.std.specs.Prelude.{List};
-    ghost use Rattle.proof_packed.specs.Stores.{Packed};
-    ghost use Rattle.raft_packed_wire.specs.declared.record.PackedRecord.{PackedRecord};
+    ghost use Rattle.raft_packed_wire.specs.declared.record.NamedRecord.{NamedRecord};
     ghost use Rattle.raft_packed_server.specs.Encoded.{AreBytesOf, values_in};
     ghost use Rattle.raft_packed_server.specs.Logs.{logged_by};
 
-    ghost Value = { List (PackedRecord (Packed M)) };
+    ghost Value = { List (NamedRecord M) };
 
     ghost view = { λ s. values_in (logged_by M.codec) s.count s.bytes.items };
 
@@ -116,7 +115,7 @@ pub fn push_payload(tail: &mut Tail, payload: &[u8], out: &mut Vec<u8>) -> Resul
 }
 
 /// Appends the record of a step.
-#[tactic(auto, unfolding(raft_packed_wire::specs::Records::packed_logged))]
+#[tactic(auto, unfolding(raft_packed_wire::specs::Records::named_logged))]
 fn write_record<M: Machine>(
     out: &mut Vec<u8>,
     moment: u64,

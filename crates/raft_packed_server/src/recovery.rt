@@ -2,15 +2,15 @@
 
 ghost use Rattle.std.specs.Prelude.{◌≡◌, OnOk, length, map};
 ghost use Rattle.proof_logs.specs.Batches.{read_at, read_in};
-ghost use Rattle.proof_packed_servers.specs.Servers.{packed_new_disk, packed_with_record};
-ghost use Rattle.raft_packed_server.specs.Logs.{logged_by};
+ghost use Rattle.proof_packed_servers.specs.Servers.{packed_new_disk};
+ghost use Rattle.raft_packed_server.specs.Logs.{kept_on_disk, logged_by, with_named};
 ghost use Rattle.raft_packed_server.specs.Recovery.{Recovers, RecoversLog};
 
 use crate::error::OpenError;
 use raft_codec::Reader;
 use raft_frames::{LogId, Tail, read};
-use raft_packed_wire::PackedRecord;
-use raft_packed_wire::raft_packed::{Machine, Packed, PackedError, PackedStore};
+use raft_packed_wire::NamedRecord;
+use raft_packed_wire::raft_packed::{Machine, PackedError, PackedStore};
 use std::alloc::Global;
 use std::marker::Model;
 
@@ -41,11 +41,8 @@ pub struct Recovery<M: Machine> {
 }
 
 /// Takes the next record.
-fn replay<M: Machine>(
-    next: PackedRecord<Packed<M>>,
-    disk: &mut Recovered<M>,
-) -> Result<(), PackedError>
-    ensures { OnOk result (disk.new ≡ packed_with_record M.application next disk.old) }
+fn replay<M: Machine>(next: NamedRecord<M>, disk: &mut Recovered<M>) -> Result<(), PackedError>
+    ensures { OnOk result (kept_on_disk M.application disk.new ≡ with_named M.application next (kept_on_disk M.application disk.old)) }
 {
     disk.moment = next.moment;
     next.replay(&mut disk.store)
@@ -61,7 +58,7 @@ fn replay_frame<M: Machine>(
 {
     let mut reader = Reader::new(alloc, payload);
     'records: while reader.left() > 0 {
-        let next = PackedRecord::read(&mut reader).map_err(OpenError::Record)?;
+        let next = NamedRecord::read(&mut reader).map_err(OpenError::Record)?;
         replay(next, disk).map_err(OpenError::Replay)?;
     }
     Ok(())

@@ -11,7 +11,7 @@ ghost use Rattle.raft_packed_server.specs.Fits.{FitsAt, StepRunsOut};
 ghost use Rattle.raft_packed_server.specs.Logs.{logged_by};
 ghost use Rattle.raft_packed_server.specs.Recovery.{Opens, unstarted};
 ghost use Rattle.raft_packed_server.specs.Represents.{Flushes, HandsOut, Stays, Takes};
-ghost use Rattle.raft_packed_server.specs.Views.{released, step_of, with_taken};
+ghost use Rattle.raft_packed_server.specs.Views.{IsWithTaken, released, step_of};
 ghost use Rattle.raft_packed_server.specs.declared.error.ServerError.TheVariants.{Stopped, Write};
 
 use crate::batch::{Said, Written};
@@ -138,8 +138,7 @@ impl<M: Machine> Server<M> {
     ///   an entry that was to be applied has no 64 bits (`fits`).
     pub fn step(&mut self, act: PackedAct<M>, at: u64) -> Result<Outcome, ServerError>
         ensures takes { Takes M.application (step_of M.application act at) self.old result self.new }
-        ensures taken { OnOk result (self.new.serving
-            ≡ option_map (with_taken M.application self.old.given (step_of M.application act at)) self.old.serving) }
+        ensures taken { OnOk result (IsWithTaken M.application self.old.given (step_of M.application act at) self.old.serving self.new.serving) }
         ensures fits { IfSome self.old.serving (λ v. IsPackedAtRest M.application v.node → IfErr result StepRunsOut) }
         ensures given { self.new.given ≡ self.old.given }
         ensures err { OnErr result (self.new.serving ≡ None) }
@@ -169,7 +168,7 @@ impl<M: Machine> Server<M> {
         ensures hands_out { IfOk result (λ written. HandsOut M.codec self.old.serving written self.new.serving) }
         ensures fits { IfSome self.old.serving (λ v. FitsAt v.tail (bytes_of (logged_by M.codec) v.records)
             → IfErr result (λ e. e ≡ Write push.OutOfMemory)) }
-        ensures stays { Stays self.old result self.new }
+        ensures stays { Stays M.application self.old result self.new }
         ensures given { self.new.given ≡ self.old.given }
         ensures err { OnErr result (self.new.serving ≡ None) }
         ensures stays_stopped { self.old.serving ≡ None → result ≡ Err Stopped }

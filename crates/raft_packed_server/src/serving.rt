@@ -6,12 +6,13 @@ ghost use Rattle.raft_calls.specs.Held.{IsRestingWhereRunning};
 ghost use Rattle.raft_packed_wire.specs.raft_packed_node.Effects.{brought_by};
 ghost use Rattle.raft_packed_wire.specs.raft_packed_node.Held.{IsPackedAtRest, RunsOut};
 ghost use Rattle.proof_logs.specs.proof_servers.Servers.{reserved_for};
-ghost use Rattle.proof_packed_servers.specs.Servers.{packed_call_effect, packed_left_of, packed_no_changes};
+ghost use Rattle.proof_packed_servers.specs.Servers.{packed_call_effect};
 ghost use Rattle.proof_logs.specs.Batches.{bytes_of};
-ghost use Rattle.raft_packed_server.specs.Began.{ends_build, is_longer, prepared_for};
+ghost use Rattle.raft_packed_wire.specs.Named.{IsBeganBy};
+ghost use Rattle.raft_packed_server.specs.Began.{built_end, named_left_of, named_no_changes, prepared_for};
 ghost use Rattle.raft_packed_server.specs.Fits.{FitsAt};
 ghost use Rattle.raft_packed_server.specs.Logs.{logged_by};
-ghost use Rattle.raft_packed_server.specs.Views.{batch_released, header_of, released, rest_released, step_of, step_taken};
+ghost use Rattle.raft_packed_server.specs.Views.{IsTaken, batch_released, header_of, released, rest_released, step_of};
 ghost use Rattle.raft_packed_server.specs.Represents.{HandsOut};
 
 use crate::batch::{Batch, Said, Written};
@@ -21,9 +22,9 @@ use crate::records::Records;
 use raft_frames::{LogId, PushError, Tail};
 use raft_node::act::Act;
 use raft_node::given::Given;
-use raft_packed_wire::PackedBegan;
 use raft_packed_wire::raft_packed::{Machine, Packed};
 use raft_packed_wire::raft_packed_node::{Node, Outbox, PackedAct, StepError};
+use raft_packed_wire::{Named, PackedBegan};
 use raft_schedule::event::{Event, EventKind, Outcome};
 use raft_wire::RESERVED_AHEAD;
 use std::alloc::{AllocError, Global};
@@ -53,7 +54,7 @@ fn began_of<M: Machine>(
     act: &Act,
     node: &mut Node<M>,
 ) -> Result<Began<M>, AllocError>
-    ensures began { IfOk result (λ began. began ≡ packed_call_effect act.now node.old) }
+    ensures began { IfOk result (λ began. IsBeganBy M.application node.old.store began (packed_call_effect act.now node.old)) }
     ensures node { OnOk result (node.new ≡ prepared_for act.now node.old) }
 {
     match act {
@@ -63,43 +64,31 @@ fn began_of<M: Machine>(
     }
 }
 
-/// The end of a build keeps what is noted, unless nothing is or the engine is spent. It is kept at once: so its bytes are the stored
-/// snapshot's, and no state is copied.
-#[tactic(auto, using(crate::proofs::Prepared::nothing_ends, crate::proofs::Prepared::noted_is_built, crate::proofs::Prepared::longer_is_built, crate::proofs::Prepared::shorter_stays))]
+/// The end of a build keeps what is noted, unless nothing is or the engine is spent. It is kept at once, so no state is copied. The log names it by
+/// its end, if that names it.
 fn build_of<M: Machine>(alloc: Global, node: &mut Node<M>) -> Result<Began<M>, AllocError>
-    ensures began { IfOk result (λ began. began ≡ packed_call_effect FinishSnapshot node.old) }
+    ensures began { IfOk result (λ began. IsBeganBy M.application node.old.store began (packed_call_effect FinishSnapshot node.old)) }
     ensures node { OnOk result (node.new ≡ prepared_for FinishSnapshot node.old) }
 {
-    if !ends_build(node) {
+    let Some(end) = built_end(node) else {
         return Began::new(alloc, &PackedBegan::Unchanged);
-    }
-    if is_longer(node) {
-        node.keep_noted()?;
-        return Began::built(alloc, node.store().snapshot());
-    }
-    match node.copy_noted()? {
-        Some(noted) => Began::built(alloc, &noted),
-        None => Began::new(alloc, &PackedBegan::Unchanged),
+    };
+    let is_named = node.is_named_by_end();
+    node.keep_noted()?;
+    if is_named {
+        Began::new(alloc, &PackedBegan::Built(Named::Folded(end)))
+    } else {
+        Began::built(alloc, node.store().snapshot())
     }
 }
 
-/// Whether the end of a build would keep something: something is noted, and the engine isn't spent.
-fn ends_build<M: Machine>(node: &Node<M>) -> bool
-    ensures { result ≡ ends_build node.now }
+/// The end of what the end of a build would keep: something is noted, and the engine isn't spent.
+fn built_end<M: Machine>(node: &Node<M>) -> Option<u64>
+    ensures { result ≡ built_end node.now }
 {
     match (node.engine(), node.noted()) {
-        (Some(engine), Some(_)) => !engine.output.is_spent(),
-        _ => false,
-    }
-}
-
-/// Whether what is noted is longer than the stored snapshot.
-fn is_longer<M: Machine>(node: &Node<M>) -> bool
-    ensures { result ≡ is_longer node.now }
-{
-    match node.noted() {
-        Some(noted) => node.store().snapshot().end() < noted.end(),
-        None => false,
+        (Some(engine), Some(noted)) if !engine.output.is_spent() => Some(noted.end()),
+        _ => None,
     }
 }
 
@@ -131,7 +120,7 @@ fn prepare<M: Machine>(
     act: &PackedAct<M>,
     serving: &mut Serving<M>,
 ) -> Result<Prepared<M>, AllocError>
-    ensures began { IfOk result (λ p. p.began ≡ packed_call_effect act.now.act serving.old.node) }
+    ensures began { IfOk result (λ p. IsBeganBy M.application serving.old.node.store p.began (packed_call_effect act.now.act serving.old.node)) }
     ensures changes { IfOk result (λ p. p.changes ≡ record { brought = brought_by M.application act.now.snapshot; changes = [] }) }
     ensures steps { IfOk result (λ p. p.steps ≡ serving.old.steps + 1) }
     ensures serving { OnOk result (serving.new ≡ record serving.old { node = prepared_for act.now.act serving.old.node }) }
@@ -165,7 +154,7 @@ fn reserve(moment: u64, reserved: u64) -> u64
 /// Whether a step's record would change nothing of the store.
 #[tactic(auto, using(crate::proofs::Seen::no_change_some, crate::proofs::Seen::no_change_none))]
 fn changes_nothing<M: Machine>(began: &Began<M>, changes: &Changes<M>) -> bool
-    ensures { result ≡ packed_no_changes began.now changes.now.changes }
+    ensures { result ≡ named_no_changes began.now changes.now.changes }
 {
     began.is_unchanged() && changes.is_empty()
 }
@@ -178,7 +167,7 @@ fn push_record<M: Machine>(
     step: &Prepared<M>,
 ) -> Result<(), AllocError>
     ensures reserved { reserved.new ≡ reserved_for moment reserved.old }
-    ensures records { OnOk result (records.new ≡ records.old ++ packed_left_of (nat_le moment reserved.old)
+    ensures records { OnOk result (records.new ≡ records.old ++ named_left_of (nat_le moment reserved.old)
         (record { moment = reserved_for moment reserved.old; began = step.now.began; changes = step.now.changes.changes })) }
 {
     let is_reserved = moment <= *reserved;
@@ -198,8 +187,7 @@ pub fn take_step<M: Machine>(
     at: u64,
 ) -> Result<Outcome, StepError>
     requires { IsRestingWhereRunning serving.old.node.engine }
-    ensures takes { IfOk result (λ outcome. record { 0 = outcome; 1 = serving.new }
-        ≡ step_taken M.application given.now (step_of M.application act at) serving.old) }
+    ensures takes { IfOk result (λ outcome. IsTaken M.application given.now (step_of M.application act at) serving.old outcome serving.new) }
     ensures fits { IsPackedAtRest M.application serving.old.node → IfErr result RunsOut }
     ensures rests { OnOk result (IsRestingWhereRunning serving.new.node.engine) }
 {

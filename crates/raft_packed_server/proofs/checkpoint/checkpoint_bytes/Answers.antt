@@ -1,5 +1,5 @@
 use Rattle.std.proofs.Common.{[], ◌++◌, rules, subst, ◌≡◌}
-use Rattle.raft_packed_wire.specs.Checkpoints.{checkpoint}
+use Rattle.raft_packed_wire.specs.Checkpoints.{named_checkpoint}
 use Rattle.raft_packed_server.specs.Checkpoints.{checkpoint_of}
 use Rattle.raft_packed_server.specs.Logs.{logged_by}
 use Rattle.raft_packed_server.proofs.Renewed.{one_record}
@@ -7,7 +7,7 @@ use Rattle.raft_packed_server.proofs.checkpoint.checkpoint_bytes.Goals as goal
 
 pub returns-clause-fits : goal.returns-clause-fits
 returns-clause-fits g c =
-    subst (λ store. (logged_by g.M.Machine.codec).fits (checkpoint c.args.serving.now.reserved store)) c.store.ensures
+    subst (λ store. (logged_by g.M.Machine.codec).fits (named_checkpoint c.args.serving.now.reserved store)) c.store.ensures
     c.in_ok-write_checkpoint.ensures.0
 
 pub returns-clause-bytes : goal.returns-clause-bytes
@@ -18,4 +18,4 @@ returns-clause-bytes g c =
     let new = c.write_checkpoint.new.out.items in
     let none : old ≡ [] = search rules in
     one_record old new (codec.bytes (checkpoint_of v)) none
-    (subst (λ store. new ≡ old ++ codec.bytes (checkpoint v.reserved store)) c.store.ensures c.in_ok-write_checkpoint.ensures.1)
+    (subst (λ store. new ≡ old ++ codec.bytes (named_checkpoint v.reserved store)) c.store.ensures c.in_ok-write_checkpoint.ensures.1)

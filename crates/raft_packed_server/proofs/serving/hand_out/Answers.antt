@@ -5,9 +5,8 @@ use Rattle.raft_frames.specs.Format.{after, frame}
 use Rattle.raft_codec.specs.Codec.{Codec}
 use Rattle.proof_logs.specs.Batches.{IsBatchOf, bytes_of}
 use Rattle.proof_packed.specs.Nodes.{PackedRecords}
-use Rattle.proof_packed.specs.Stores.{Packed}
 use Rattle.raft_packed_wire.specs.raft_packed_node.Effects.{nothing_recorded}
-use Rattle.raft_packed_wire.specs.declared.record.PackedRecord.{PackedRecord}
+use Rattle.raft_packed_wire.specs.declared.record.NamedRecord.{NamedRecord}
 use Rattle.raft_packed_server.specs.declared.batch.Written.{Written}
 use Rattle.raft_packed_server.specs.declared.serving.Serving.{Serving}
 use Rattle.raft_packed_server.specs.Logs.{logged_by}
@@ -21,7 +20,7 @@ none_there (Some x) there = absurd cc
 
 -- what was written, and what is left of the server, are as the model's
 handed : {S : Type 0} (c : Codec S) (v : Serving S) (w : Written) (bytes : List ℕ) (tail : Tail) (said left : PackedRecords S)
-    (records : List (PackedRecord (Packed S))) (header : Option LogId)
+    (records : List (NamedRecord S)) (header : Option LogId)
     → is_some v.written ≡ false
     → IsBatchOf (logged_by c) v.records
     → w.bytes.items ≡ bytes ++ frame v.tail (bytes_of (logged_by c) v.records)

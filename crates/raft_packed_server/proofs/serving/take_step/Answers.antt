@@ -7,10 +7,9 @@ use Rattle.proof_logs.specs.proof_servers.Servers.{event_at, reserved_for}
 use Rattle.proof_packed.specs.Nodes.{packed_played}
 use Rattle.proof_packed.specs.Records.{packed_commands_at}
 use Rattle.raft_packed_wire.specs.raft_packed_node.Effects.{scene}
-use Rattle.proof_packed_servers.specs.Servers.{packed_left_of}
 use Rattle.raft_packed_server.specs.declared.serving.Serving.{Serving}
-use Rattle.raft_packed_server.specs.Began.{prepared_for}
-use Rattle.raft_packed_server.specs.Views.{ChangesView, step_of}
+use Rattle.raft_packed_server.specs.Began.{named_left_of, prepared_for}
+use Rattle.raft_packed_server.specs.Views.{ChangesView, IsTaken, step_of}
 use Rattle.raft_packed_server.proofs.Prepared.{engine_stays, prepared_commands, prepared_plays, prepared_rests}
 use Rattle.raft_packed_server.proofs.Steps.{sees, step_is}
 use Rattle.raft_packed_server.proofs.serving.take_step.Goals as goal
@@ -45,9 +44,10 @@ returns-clause-takes g c =
     let upto = c.push_record.new.reserved in
     let all : ChangesView g.row.M.Denot → ChangesView g.row.M.Denot =
     λ w. fold sees w (packed_commands_at app given step.act step.brought ev (scene here.node here.outputs)) in
-    ap (λ (s : Serving g.row.M.Denot).
-    (c.in_ok-outcome.outcome, record s { node = node; reserved = upto; steps = prepared.steps; outputs = said; records = c.push_record.new.records })) ready
-    ∙ step_is app given step v c.in_ok-outcome.outcome node said seen prepared.began upto prepared.steps c.push_record.new.records
+    subst (λ (s : Serving g.row.M.Denot).
+    IsTaken app given step v c.in_ok-outcome.outcome
+    (record s { node = node; reserved = upto; steps = prepared.steps; outputs = said; records = c.push_record.new.records })) (sym ready)
+    (step_is app given step v c.in_ok-outcome.outcome node said seen prepared.began upto prepared.steps c.push_record.new.records
     (c.in_ok-outcome.ensures.does
     ∙ (ap (λ (s : Serving g.row.M.Denot). packed_played app given step.act step.brought ev (scene s.node s.outputs)) ready
     ∙ prepared_plays app given step.brought ev v.outputs step.act v.node))
@@ -63,8 +63,8 @@ returns-clause-takes g c =
     c.in_ok-prepared.ensures.steps
     (c.in_ok-push_record.ensures.records
     ∙ (ap (λ m. here.records
-    ++ packed_left_of (nat_le m here.reserved) (record { moment = reserved_for m here.reserved; began = prepared.began; changes = seen.changes }))
+    ++ named_left_of (nat_le m here.reserved) (record { moment = reserved_for m here.reserved; began = prepared.began; changes = seen.changes }))
     c.moment.ensures
     ∙ ap (λ (s : Serving g.row.M.Denot). s.records
-    ++ packed_left_of (nat_le node.moment s.reserved) (record { moment = reserved_for node.moment s.reserved; began = prepared.began; changes = seen.changes }))
-    ready))
+    ++ named_left_of (nat_le node.moment s.reserved) (record { moment = reserved_for node.moment s.reserved; began = prepared.began; changes = seen.changes }))
+    ready)))

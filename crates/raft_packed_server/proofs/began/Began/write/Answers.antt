@@ -1,6 +1,6 @@
 use Rattle.std.proofs.Common.{subst}
 use Rattle.raft_codec.specs.Codec.{Writes}
-use Rattle.raft_packed_wire.specs.Records.{packed_began}
+use Rattle.raft_packed_wire.specs.Records.{named_began}
 use Rattle.raft_packed_wire.specs.Values.{kept}
 use Rattle.raft_packed_server.proofs.Kept.{appended}
 use Rattle.raft_packed_server.proofs.Seen.{began_written}
@@ -13,6 +13,6 @@ returns g c =
     let r = c.extend_from_slice.result in
     let old = c.args.out.now.items in
     let new = c.extend_from_slice.new.self.items in
-    subst (λ began. Writes (packed_began (kept codec)) began r old new) c.self.view_is
+    subst (λ began. Writes (named_began (kept codec)) began r old new) c.self.view_is
     (began_written codec c.self.inside.is_unchanged bytes old new r c.self.invariant
     (appended r old new c.deref.result.now bytes c.deref.ensures.value c.extend_from_slice.ensures.items))
