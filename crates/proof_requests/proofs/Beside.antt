@@ -86,7 +86,7 @@ module _ {S : Type 0} (app : Application S) (codec : Codec S) (given : Given) (a
         member = core.member;
         own = core.own;
         given_is = core.given_is;
-        stands = subst (λ (x : Server). Represents (server_packed app x) v.server) (sym (server_still given id other d actions took own)) core.stands;
+        stands = subst (λ (x : Server). Represents app (server_packed app x) v.server) (sym (server_still given id other d actions took own)) core.stands;
         open_are = record {
           proposed = o.proposed;
           waiting = o.waiting;
@@ -722,10 +722,10 @@ beside_reading {S} app codec given wf actions placed s h log k disk bytes o memb
     (reader_start given actions log.node c.survive 0 o.core begins.executed begins.reads (h.bare log.node))))
 
 pub beside_start : {S : Type 0} (app : Application S) (codec : Codec S) → IsCodec codec → StaysByStart app codec
-beside_start {S} app codec inverse given wf actions placed s h log k disk batches n o member same cut begins =
+beside_start {S} app codec inverse given wf actions placed s h log k disk batches next n o member same cut begins =
     let server : PackedServer S = record (server_packed app (server_after given actions log.node)) { disk = disk } in
-    let c = opens_after_cuts app codec inverse given log k 0 server batches n (record { server = o.core.server; end = o.end }) cut begins.opens in
-    (c.survive, beside_reading app codec given wf actions placed s h log k disk (cut_file app codec log k server batches n) o member same begins c)
+    let c = opens_after_cuts app codec inverse given log k 0 server batches next n (record { server = o.core.server; end = o.end }) cut begins.opens in
+    (c.survive, beside_reading app codec given wf actions placed s h log k disk (cut_file app codec log batches next n) o member same begins c)
 
 -- a server stops for good
 pub beside_stop : {S : Type 0} (app : Application S) (codec : Codec S) (given : Given) (actions : List Action) (placed : List Placed) (s : Cores S)

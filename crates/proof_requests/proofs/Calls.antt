@@ -121,7 +121,7 @@ module _ {S : Type 0} (app : Application S) (c : Codec S) (given : Given) (wf : 
   pub keeps_same : (took : List Action) → AllByRecursion (IsOwnAction id) took
       → AllMayAct given took (after_actions given actions (new_cluster given)) → ArePlaced given (actions ++ took) placed
       → Closed given (actions ++ took) placed id asked (replies_of out) new.requests → new.id ≡ old.id → new.server.given ≡ given
-      → Represents (server_packed app (server_after given (actions ++ took) id)) new.server
+      → Represents app (server_packed app (server_after given (actions ++ took) id)) new.server
       → AreSent app c (after_actions given (actions ++ took) (new_cluster given)).released.bag (frames_of out) → Kept took
   keeps_same took own m ps k is g r sent_are = record {
     own = own;
@@ -143,7 +143,7 @@ module _ {S : Type 0} (app : Application S) (c : Codec S) (given : Given) (wf : 
 
   -- steps that propose nothing
   pub stepped : (steps : List Step) (taken : List (PackedStep S)) → AreSteps app steps taken → new.server.given ≡ old.server.given
-      → ((s : PackedServer S) → Represents s old.server → Represents (with_steps app old.server.given taken s) new.server) → new.id ≡ old.id
+      → ((s : PackedServer S) → Represents app s old.server → Represents app (with_steps app old.server.given taken s) new.server) → new.id ≡ old.id
       → AllByRecursion (λ (s : Step). MayTake bag id s.act) steps
       → AllByRecursion (λ (s : Step). NoPropose s.act) steps → (rs : List Reply) (o : Open) → replies_of out ≡ rs → new.requests ≡ o
       → (AreOpen given (actions ++ map (Takes id) steps) placed id old.requests asked
@@ -160,7 +160,7 @@ module _ {S : Type 0} (app : Application S) (c : Codec S) (given : Given) (wf : 
       (placed_kept given actions took placed (steps_no_proposal given id steps n) placed_are)
       (closed_as (actions ++ took) rs o e q (close open_now)) is (given_same ∙ core.given_is)
       (stands_after app given wf id core.member steps taken same actions (may_both given actions took (new_cluster given) may may_took) new.server
-      (subst (λ g. Represents (with_steps app g taken (server_packed app (server_after given actions id))) new.server) core.given_is
+      (subst (λ g. Represents app (with_steps app g taken (server_packed app (server_after given actions id))) new.server) core.given_is
       (takes (server_packed app (server_after given actions id)) core.stands)))
       (sent_are (after_actions given (actions ++ took) (new_cluster given)).released.bag)
 
@@ -211,7 +211,7 @@ module _ {S : Type 0} (app : Application S) (c : Codec S) (given : Given) (wf : 
   receives inverse bytes (from, (frames.PreVote ask, is, t)) = (
     [],
     refl,
-    stepped [] [] refl (ap (λ (v : CoreView S). v.server.given) t.rest) (λ s is. subst (λ (v : CoreView S). Represents s v.server) (sym t.rest) is)
+    stepped [] [] refl (ap (λ (v : CoreView S). v.server.given) t.rest) (λ s is. subst (λ (v : CoreView S). Represents app s v.server) (sym t.rest) is)
         (ap (λ (v : CoreView S). v.id) t.rest) tt tt [] old.requests
         (ap replies_of t.leaves ∙ none_granted S t.replies) (ap (λ (v : CoreView S). v.requests) t.rest)
         (λ k. closes_none given _ placed id asked old.requests k)
@@ -246,7 +246,7 @@ module _ {S : Type 0} (app : Application S) (c : Codec S) (given : Given) (wf : 
     theirs = said_all (take count (server_after given actions id).waiting)
 
     flush : (r.said ≡ said_by (take count (server_packed app (server_after given actions id)).waiting))
-        × Represents (packed_flushed_first app count (server_packed app (server_after given actions id))) new.server
+        × Represents app (packed_flushed_first app count (server_packed app (server_after given actions id))) new.server
     flush = r.flushes (server_packed app (server_after given actions id)) core.stands
 
     said_is : r.said ≡ packed_records app theirs
@@ -298,7 +298,7 @@ module _ {S : Type 0} (app : Application S) (c : Codec S) (given : Given) (wf : 
         asked
         old.requests open_now))
         (ap (λ (v : CoreView S). v.id) r.rest) (r.given ∙ core.given_is)
-        (subst (λ (s : PackedServer S). Represents s new.server)
+        (subst (λ (s : PackedServer S). Represents app s new.server)
         (sym (ap (server_packed app) (all_flushed given count actions id) ∙ flushes_packed app count (server_after given actions id))) flush.1)
         (subst (λ (o : List (Output S)). AreSent app c bag_now (frames_of o)) (sym r.leaves)
         (sent_before app c bag_now (said_outputs r.frames r.said old.requests.proposed) (reads_out told_reads)
@@ -317,7 +317,7 @@ admits {S} app given actions placed id asked old new token operation number core
       member = core.member;
       own = ap (λ (v : CoreView S). v.id) a ∙ core.own;
       given_is = ap (λ (v : ServerView S). v.given) same ∙ core.given_is;
-      stands = subst (Represents (server_packed app (server_after given actions id))) (sym same) core.stands;
+      stands = subst (Represents app (server_packed app (server_after given actions id))) (sym same) core.stands;
       open_are = subst (λ (o : Open). AreOpen given actions placed id o (asked ++ one ∷ [])) (sym (ap (λ (v : CoreView S). v.requests) a)) (record {
         proposed = h.proposed;
         waiting = h.waiting ++ one ∷ [];
@@ -338,7 +338,7 @@ opens {S} app given wf actions may placed placed_are id k at member new own give
     member = member;
     own = own;
     given_is = given_is;
-    stands = subst (λ (s : PackedServer S). Represents s new.server)
+    stands = subst (λ (s : PackedServer S). Represents app s new.server)
         (sym (ap (λ (c : Cluster). server_packed app (c.servers id)) (after_both given actions (Crashes id k at ∷ []) (new_cluster given))
         ∙ (ap (server_packed app) (changes id (crashed given id k at (server_after given actions id))
         (after_actions given actions (new_cluster given))).own

@@ -12,7 +12,7 @@ use Rattle.proof_servers.specs.Servers.{Action}
 use Rattle.raft_core.specs.raft_packed_server.declared.batch.Written.{Written}
 use Rattle.raft_core.specs.raft_packed_server.Checkpoints.{GoesOnWithNewLog, with_new_log}
 use Rattle.raft_core.specs.raft_packed_server.Represents.{StandsFor}
-use Rattle.raft_core.proofs.raft_packed_server_proofs.Renewed.{new_logs_go_on}
+use Rattle.raft_core.proofs.raft_packed_server_proofs.Renewed.{checkpoint_alike, new_logs_go_on}
 use Rattle.raft_core.specs.Calls.{BeginsNewLog}
 use Rattle.raft_core.specs.Views.{CoreView}
 use Rattle.proof_requests.specs.Clients.{AreBeside, Cores, IsOver, with_one}
@@ -49,7 +49,7 @@ module _ {S : Type 0} (app : Application S) (codec : Codec S) (given : Given) (a
   reader = h.reading id old runs
 
   goes_on : GoesOnWithNewLog app codec log server begins.serving w
-  goes_on = new_logs_go_on app codec log server begins.serving w (subst (StandsFor server) begins.serves core.stands) begins.is_new
+  goes_on = new_logs_go_on app codec log server begins.serving w (subst (StandsFor app server) begins.serves core.stands) begins.is_new
 
   core_now : IsCore app given actions placed id new (s.open_at id)
   core_now =
@@ -57,7 +57,8 @@ module _ {S : Type 0} (app : Application S) (codec : Codec S) (given : Given) (a
         member = core.member;
         own = core.own;
         given_is = core.given_is;
-        stands = stands_on server (packed_checkpointed app server).disk (Some (with_new_log codec log begins.serving)) goes_on.stands;
+        stands = stands_on app server (packed_checkpointed app server).disk (Some (with_new_log codec log begins.serving))
+            (checkpoint_alike app server begins.serving (subst (StandsFor app server) begins.serves core.stands) goes_on.waits) goes_on.stands;
         open_are = core.open_are;
       })
 

@@ -30,7 +30,9 @@ use Rattle.raft_core.specs.proof_packed_servers.Checkpoints.{AreSameDisks}
 use Rattle.raft_core.specs.proof_packed_servers.Servers.{PackedDisk, PackedServer, PackedStep, packed_crashed, packed_flushed_first, packed_joined}
 use Rattle.raft_core.specs.proof_packed_servers.Servers.{packed_played_alone}
 use Rattle.raft_core.specs.proof_packed_servers.Servers.{server_packed, step_packed, waiting_packed}
-use Rattle.raft_core.proofs.proof_packed_servers_proofs.Checkpoints.{crashed_alike}
+use Rattle.raft_core.proofs.proof_packed_servers_proofs.Checkpoints.{crashed_alike, first_alike}
+use Rattle.raft_core.proofs.raft_packed_server_proofs.Waiting.{stands_alike}
+use Rattle.raft_core.specs.raft_packed_wire.Records.{packed_on_disk}
 use Rattle.raft_core.proofs.proof_packed_servers_proofs.Clusters.{joined_kept}
 use Rattle.raft_core.proofs.proof_packed_servers_proofs.Disks.{first_kept}
 use Rattle.raft_core.proofs.proof_packed_servers_proofs.Serving.{servers_kept}
@@ -134,10 +136,12 @@ head_same x y xs ys e = cc
 tail_same : {A : Type 0} (x y : A) (xs ys : List A) → x ∷ xs ≡ y ∷ ys → xs ≡ ys
 tail_same x y xs ys e = cc
 
--- what a server stands for doesn't depend on what is on disk
-pub stands_on : {S : Type 0} (s : PackedServer S) (disk : PackedDisk S) (o : Option (Serving S)) → StandsFor (record s { disk = disk }) o → StandsFor s o
-stands_on s disk None h = h
-stands_on s disk (Some v) h = record { node = h.node; reserved = h.reserved; waiting = h.waiting }
+-- what a server stands for doesn't depend on what no start reads on disk
+pub stands_on : {S : Type 0} (app : Application S) (s : PackedServer S) (disk : PackedDisk S) (o : Option (Serving S))
+    → packed_on_disk app s.disk.store ≡ packed_on_disk app disk.store → StandsFor app (record s { disk = disk }) o → StandsFor app s o
+stands_on app s disk None same h = h
+stands_on app s disk (Some v) same h =
+    stands_alike app (record s { disk = disk }) s.disk v (sym same) h
 
 module _ {S : Type 0} (app : Application S) where
   -- What waits
@@ -268,10 +272,11 @@ module _ {S : Type 0} (app : Application S) where
 
   -- after a crash what a server stands for doesn't depend on what no start reads on disk
   pub crash_stands : (given : Given) (id k at : ℕ) (s : PackedServer S) (disk : PackedDisk S) → AreSameDisks app s.disk disk → (v : ServerView S)
-      → Represents (packed_crashed app given id k at (record s { disk = disk })) v → Represents (packed_crashed app given id k at s) v
+      → Represents app (packed_crashed app given id k at (record s { disk = disk })) v → Represents app (packed_crashed app given id k at s) v
   crash_stands given id k at s disk same v h =
-      stands_on (packed_crashed app given id k at s) (packed_flushed_first app k (record s { disk = disk })).disk v.serving
-      (subst (λ (t : PackedServer S). Represents t v) (crashed_alike app given id k at s disk same) h)
+      stands_on app (packed_crashed app given id k at s) (packed_flushed_first app k (record s { disk = disk })).disk v.serving
+      (first_alike app k s disk same).store
+      (subst (λ (t : PackedServer S). Represents app t v) (crashed_alike app given id k at s disk same) h)
 
   module _ (given : Given) (wf : IsWellFormed given) (id : ℕ) (member : Contains given.ids id) where
     -- after a crash
@@ -305,9 +310,9 @@ module _ {S : Type 0} (app : Application S) where
     -- so a server that took them stands for the model's server then
     pub stands_after : (steps : List Step) (taken : List (PackedStep S)) → AreSteps app steps taken → (actions : List Action)
         → AllMayAct given (actions ++ map (Takes id) steps) (new_cluster given) → (v : ServerView S)
-        → Represents (with_steps app given taken (server_packed app (server_after given actions id))) v
-        → Represents (server_packed app (server_after given (actions ++ map (Takes id) steps) id)) v
+        → Represents app (with_steps app given taken (server_packed app (server_after given actions id))) v
+        → Represents app (server_packed app (server_after given (actions ++ map (Takes id) steps) id)) v
     stands_after steps taken same actions may v h =
-        subst (λ (s : PackedServer S). Represents s v)
+        subst (λ (s : PackedServer S). Represents app s v)
         (ap (λ ts. with_steps app given ts (server_packed app (server_after given actions id))) (sym same)
         ∙ (sym (steps_packed steps actions may) ∙ ap (server_packed app) (sym (server_steps given id steps actions)))) h

@@ -276,7 +276,7 @@ module _ {S : Type 0} (app : Application S) (given : Given) (wf : IsWellFormed g
   abbrev server : Server
   server = server_after given actions id
 
-  moment_is : (v : Option (Serving S)) (s : Server) → StandsFor (server_packed app s) v → moment_in v ≡ s.node.moment
+  moment_is : (v : Option (Serving S)) (s : Server) → StandsFor app (server_packed app s) v → moment_in v ≡ s.node.moment
   moment_is None s h = absurd h
   moment_is (Some v) s h = ap (λ (n : PackedNode S). n.moment) h.node
 
@@ -298,13 +298,13 @@ module _ {S : Type 0} (app : Application S) (given : Given) (wf : IsWellFormed g
       go None f = tt
       go (Some e) f = f e refl
 
-  engine_is : (v : Option (Serving S)) → StandsFor (server_packed app server) v → (e : EngineView) → engine_in v ≡ Some e
+  engine_is : (v : Option (Serving S)) → StandsFor app (server_packed app server) v → (e : EngineView) → engine_in v ≡ Some e
       → server.node.engine ≡ Some e
   engine_is None s e q = absurd s
   engine_is (Some v) s e q = sym bare_engine_is ∙ (ap (λ (n : PackedNode S). n.engine) (sym s.node) ∙ q)
 
   -- the step that asks
-  module _ (at own : ℕ) (own_is : own ≡ id) (view : ServerView S) (same : view.given ≡ given) (stands : Represents (server_packed app server) view)
+  module _ (at own : ℕ) (own_is : own ≡ id) (view : ServerView S) (same : view.given ≡ given) (stands : Represents app (server_packed app server) view)
       (old : ReadsView)
       (view' : ServerView S) (new : ReadsView) (asks : AsksNode app at own view old view' new) where
     abbrev step : Step
@@ -322,10 +322,10 @@ module _ {S : Type 0} (app : Application S) (given : Given) (wf : IsWellFormed g
     may_after : AllMayAct given after (new_cluster given)
     may_after = may_both given actions (Takes id step ∷ []) (new_cluster given) may ((member, tt), tt)
 
-    stands_now : Represents (server_packed app (server_after given after id)) view'
+    stands_now : Represents app (server_packed app (server_after given after id)) view'
     stands_now =
         stands_after app given wf id member (step ∷ []) (steps_at app at (acts.Read ∷ [])) refl actions may_after view'
-        (subst (λ g. Represents (with_steps app g (steps_at app at (acts.Read ∷ [])) (server_packed app server)) view') same
+        (subst (λ g. Represents app (with_steps app g (steps_at app at (acts.Read ∷ [])) (server_packed app server)) view') same
         (asks.takes.steps (server_packed app server) stands))
 
     says : read_answer server.node.id asks.engine ≡ Some asks.answer
@@ -633,7 +633,7 @@ module _ {S : Type 0} (app : Application S) (c : Codec S) (given : Given) (wf : 
   said_is : r.said ≡ packed_records app theirs
   said_is =
       let z : (r.said ≡ said_by (take count (server_packed app (server_after given actions id)).waiting))
-      × Represents (packed_flushed_first app count (server_packed app (server_after given actions id))) new.server =
+      × Represents app (packed_flushed_first app count (server_packed app (server_after given actions id))) new.server =
       r.flushes (server_packed app (server_after given actions id)) core.stands in
       z.0 ∙ said_first app count (server_after given actions id)
 

@@ -167,10 +167,10 @@ module _ {S : Type 0} (app : Application S) (c : Codec S) (given : Given) (wf : 
     step_taken = step_at app old.clock (Propose values)
 
     taken_step : (b.outcome ≡ (packed_played_alone app given packed.node step_taken).0)
-        × Represents (packed_with_step app given step_taken packed) w.server
+        × Represents app (packed_with_step app given step_taken packed) w.server
     taken_step =
         subst (λ g. (b.outcome ≡ (packed_played_alone app g packed.node step_taken).0)
-        × Represents (packed_with_step app g step_taken packed) w.server)
+        × Represents app (packed_with_step app g step_taken packed) w.server)
         core.given_is (b.takes.step packed core.stands)
 
     outcome_is : b.outcome ≡ (played_alone given node step).0
@@ -182,7 +182,7 @@ module _ {S : Type 0} (app : Application S) (c : Codec S) (given : Given) (wf : 
     may_now : AllMayAct given after (new_cluster given)
     may_now = may_both given actions took (new_cluster given) may ((core.member, tt), tt)
 
-    stands_now : Represents (server_packed app (server_after given after id)) new.server
+    stands_now : Represents app (server_packed app (server_after given after id)) new.server
     stands_now =
         w.stays (server_packed app (server_after given after id))
         (stands_after app given wf id core.member (step ∷ []) (step_taken ∷ []) refl actions may_now w.server taken_step.1)
@@ -194,7 +194,7 @@ module _ {S : Type 0} (app : Application S) (c : Codec S) (given : Given) (wf : 
         bared None n = tt
         bared (Some e) n = record { leads = n.leads; index = n.index }
 
-        go : (o : Option (Serving S)) → StandsFor packed o → IsNextId o first → IfSome node.engine (λ e. IsNext e first)
+        go : (o : Option (Serving S)) → StandsFor app packed o → IsNextId o first → IfSome node.engine (λ e. IsNext e first)
         go None s n = absurd s
         go (Some v) s n = bared node.engine (subst (λ (m : PackedNode S). IfSome m.engine (λ e. IsNext e first)) s.node n)
 
@@ -553,7 +553,7 @@ module _ {S : Type 0} (app : Application S) (c : Codec S) (given : Given) (wf : 
       → Keeps app c given actions placed id asked out new []
   keeps_without e rs o q r close =
       stepped app c given wf actions may placed placed_are id asked (record old { server = w.asked }) new out core [] [] refl
-      (w.given ∙ ap (λ (v : ServerView S). v.given) e) (λ s is. w.stays s (subst (Represents s) (sym e) is)) same_id tt tt rs o (leave ∙ q) r close
+      (w.given ∙ ap (λ (v : ServerView S). v.given) e) (λ s is. w.stays s (subst (Represents app s) (sym e) is)) same_id tt tt rs o (leave ∙ q) r close
       sent_are
 
   abbrev proposed_by : Proposes app old.clock w.asked w.kept w.lost w.server new.requests w.replies → List Act
@@ -603,7 +603,7 @@ module _ {S : Type 0} (app : Application S) (c : Codec S) (given : Given) (wf : 
   after_asking : (steps : List Step) (taken : List (PackedStep S)) → AreSteps app steps taken
       → AllByRecursion (λ (s : Step). MayTake (after_actions given actions (new_cluster given)).released.bag id s.act) steps
       → AllByRecursion (λ (s : Step). (values : List Value) → s.act ≡ Propose values → ⊥) steps → w.asked.given ≡ given
-      → Represents (with_steps app given taken (server_packed app (server_after given actions id))) w.asked
+      → Represents app (with_steps app given taken (server_packed app (server_after given actions id))) w.asked
       → Keeps app c given actions placed id asked out new (taking id (steps ++ acts_at old.clock proposing))
   after_asking steps taken same m n g r =
       let first : List Action = map (Takes id) steps in
@@ -629,11 +629,11 @@ module _ {S : Type 0} (app : Application S) (c : Codec S) (given : Given) (wf : 
       (taking id (acts_at old.clock (asked_acts app old.clock old.id old.server w.reads w.asked new.reads a) ++ acts_at old.clock proposing))
   keeps_asking (inl (e, q)) =
       after_asking [] [] refl tt tt (ap (λ (v : ServerView S). v.given) e ∙ core.given_is)
-      (subst (Represents (server_packed app (server_after given actions id))) (sym e) core.stands)
+      (subst (Represents app (server_packed app (server_after given actions id))) (sym e) core.stands)
   keeps_asking (inr asks) =
       after_asking (acts_at old.clock (acts.Read ∷ [])) (steps_at app old.clock (acts.Read ∷ [])) refl (tt, tt) ((λ values e. cc), tt)
       (asks.takes.given ∙ core.given_is)
-      (subst (λ g. Represents (with_steps app g (steps_at app old.clock (acts.Read ∷ [])) (server_packed app (server_after given actions id)))
+      (subst (λ g. Represents app (with_steps app g (steps_at app old.clock (acts.Read ∷ [])) (server_packed app (server_after given actions id)))
       w.asked)
       core.given_is (asks.takes.steps (server_packed app (server_after given actions id)) core.stands))
 
@@ -656,7 +656,7 @@ writes {S} app c given wf actions may placed placed_are id asked old new out cor
   [],
   refl,
   stepped app c given wf actions may placed placed_are id asked old new out core [] [] refl
-      (ap (λ (v : CoreView S). v.server.given) q) (λ s is. subst (λ (v : CoreView S). Represents s v.server) (sym q) is)
+      (ap (λ (v : CoreView S). v.server.given) q) (λ s is. subst (λ (v : CoreView S). Represents app s v.server) (sym q) is)
       (ap (λ (v : CoreView S). v.id) q) tt tt [] old.requests (ap replies_of e) (ap (λ (v : CoreView S). v.requests) q)
       (λ k. closes_none given (actions ++ []) placed id asked old.requests k) (λ bag. none_sent app c bag out (ap frames_of e)),
 )

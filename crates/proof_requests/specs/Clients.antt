@@ -17,10 +17,10 @@ use Rattle.raft_answers.specs.declared.request.Token.{Token}
 use Rattle.proof_clients.specs.Objects.{IsLinearizable, Object, Operation, Query, Return, Update}
 use Rattle.proof_servers.specs.Servers.{Action, AllMayAct, Crashes, Step, after_actions, new_cluster}
 use Rattle.proof_answers.specs.Histories.{IsHistory}
-use Rattle.proof_packed.specs.Stores.{Application, Packed}
+use Rattle.proof_packed.specs.Stores.{Application}
 use Rattle.raft_core.specs.proof_packed_servers.Checkpoints.{AreSameDisks}
 use Rattle.raft_core.specs.proof_packed_servers.Servers.{PackedDisk, PackedStep, server_packed}
-use Rattle.raft_core.specs.raft_packed_wire.declared.record.PackedRecord.{PackedRecord}
+use Rattle.raft_core.specs.raft_packed_wire.declared.record.NamedRecord.{NamedRecord}
 use Rattle.raft_core.specs.raft_packed_server.declared.batch.Written.{Written}
 use Rattle.raft_core.specs.raft_packed_server.Laws.{IsCut, OpensCrashed, cut_file}
 use Rattle.raft_core.specs.declared.driver.OpenedCore.{OpenedCore}
@@ -284,12 +284,12 @@ module _ {S : Type 0} (app : Application S) (c : Codec S) where
   abbrev pub StaysByStart : Type 0
   StaysByStart =
       (given : Given) → IsWellFormed given → (actions : List Action) (placed : List Placed) (s : Cores S) → AreBeside app c given actions placed s
-      → (log : LogName) (k : ℕ) (disk : PackedDisk S) (batches : List (List (PackedRecord (Packed S)))) (n : ℕ) (o : OpenedCore S)
+      → (log : LogName) (k : ℕ) (disk : PackedDisk S) (batches : List (List (NamedRecord S))) (next : List (NamedRecord S)) (n : ℕ) (o : OpenedCore S)
       → Contains given.ids log.node
       → let server = server_packed app (server_after given actions log.node) in
       AreSameDisks app server.disk disk
-      → IsCut app c log k (record server { disk = disk }) batches n
-      → Begins app c given log (cut_file app c log k (record server { disk = disk }) batches n) o
+      → IsCut app c log k (record server { disk = disk }) batches next n
+      → Begins app c given log (cut_file app c log batches next n) o
       → (survive : ℕ) × AreBeside app c given (actions ++ Crashes log.node survive 0 ∷ []) placed
       (after_end log.node (Some o.core) (length actions + 1) s)
 

@@ -89,7 +89,7 @@ module _ {S : Type 0} (app : Application S) where
       → (id k at : ℕ) → Contains given.ids id → (new : CoreView S) → new.id ≡ id → new.server.given ≡ given → new.requests ≡ no_requests
       → (disk : PackedDisk S)
       → let server = server_packed app (server_after given actions id) in
-      AreSameDisks app server.disk disk → Represents (packed_crashed app given id k at (record server { disk = disk })) new.server
+      AreSameDisks app server.disk disk → Represents app (packed_crashed app given id k at (record server { disk = disk })) new.server
       → AllMayAct given (actions ++ Crashes id k at ∷ []) (new_cluster given) × ArePlaced given (actions ++ Crashes id k at ∷ []) placed
       × IsCore app given (actions ++ Crashes id k at ∷ []) placed id new []
 

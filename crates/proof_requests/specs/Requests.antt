@@ -127,5 +127,5 @@ pub record IsCore {S : Type 0} (app : Application S) (given : Given) (actions : 
   pub member : Contains given.ids id
   pub own : v.id ≡ id
   pub given_is : v.server.given ≡ given
-  pub stands : Represents (server_packed app (server_after given actions id)) v.server
+  pub stands : Represents app (server_packed app (server_after given actions id)) v.server
   pub open_are : AreOpen given actions placed id v.requests asked

@@ -23,7 +23,7 @@ use Rattle.proof_requests.specs.raft_core.Calls.{Asks, IsRefusal, Proposes, Rece
 use Rattle.proof_requests.specs.raft_core.Laws.{IsNotOk, replies_of}
 use Rattle.proof_requests.specs.raft_core.Outputs.{lost_replies, overdue_replies, reads_out, replies_out}
 use Rattle.proof_requests.specs.raft_core.Reads.{failed_replies, read_replies, refused_left, refused_replies, with_heard}
-use Rattle.proof_requests.specs.raft_core.Steps.{with_all_taken, with_steps}
+use Rattle.proof_requests.specs.raft_core.Steps.{IsWithAllTaken, with_steps}
 use Rattle.proof_requests.specs.raft_core.Views.{CoreView}
 use Rattle.proof_requests.proofs.raft_core_proofs.Told.{before, before_read, behind_read, none_appended, none_asked, none_read}
 use Rattle.proof_requests.proofs.raft_core_proofs.Unsaid.{only_releases_tell_ok}
@@ -111,7 +111,7 @@ module _ {S : Type 0} (app : Application S) (codec : Codec S) where
     pub idle : new.server ≡ core.server → new.id ≡ core.id → IsServer app codec given s next
     idle same same_id = recored app codec given s m is core new is_open same same_id
 
-    at_once : (steps : List (PackedStep S)) → new.server.serving ≡ with_all_taken app core.server.given steps core.server.serving → new.server.given ≡ core.server.given → new.id ≡ core.id → IsServer app codec given (with_steps app given steps s) next
+    at_once : (steps : List (PackedStep S)) → IsWithAllTaken app core.server.given steps core.server.serving new.server.serving → new.server.given ≡ core.server.given → new.id ≡ core.id → IsServer app codec given (with_steps app given steps s) next
     at_once steps taken given_same same_id = steps_taken app codec given steps s m core new is is_open taken given_same same_id
 
     pub is_initialized : (out : List (Output S)) → Initializes app core out new → IsServer app codec given (with_steps app given (initialized app core) s) next
@@ -191,7 +191,7 @@ module _ {S : Type 0} (app : Application S) (codec : Codec S) where
             recored app codec given t (record m { core = Some (record core { server = w.asked }) }) is (record core { server = w.asked }) (record core { server = w.server }) refl all.1 refl
         propose_now t is (inr (inr (first, is_next, b))) =
             steps_taken app codec given (proposed app core.clock w.asked w.kept w.lost w.server new.requests w.replies (inr (inr (first, is_next, b)))) t (record m { core = Some (record core { server = w.asked }) })
-            (record core { server = w.asked }) (record core { server = w.server }) is refl b.takes.taken b.takes.given refl
+            (record core { server = w.asked }) (record core { server = w.server }) is refl (w.server.serving, (b.takes.taken, refl)) b.takes.given refl
 
     pub is_written : (w : Writes app codec core out new) → IsServer app codec given (with_steps app given (written app codec core out new w) s) after
     is_written (inl none_now) =

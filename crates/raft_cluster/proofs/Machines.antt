@@ -8,13 +8,14 @@ use Rattle.std.proofs.lemmas.List.{append-nil, length-append, take_at, take-appe
 use Rattle.raft_frames.specs.declared.header.LogId.{LogId}
 use Rattle.raft_node.specs.declared.given.Given.{Given}
 use Rattle.raft_codec.specs.Codec.{Codec, IsCodec}
-use Rattle.proof_requests.specs.proof_logs.Batches.{AreBatchesOf, IsFileOf, all_of, file_of, one_batch}
+use Rattle.proof_requests.specs.proof_logs.Batches.{AreBatchesOf, IsFileOf, file_of, one_batch}
 use Rattle.proof_requests.specs.proof_logs.Files.{log_of}
-use Rattle.proof_requests.proofs.proof_logs_proofs.Records.{batches_join}
 use Rattle.proof_packed.specs.Nodes.{PackedRecords}
 use Rattle.proof_packed.specs.Stores.{Application}
 use Rattle.proof_packed.specs.Nodes.{packed_new_node}
 use Rattle.raft_packed_wire.specs.raft_packed_node.Effects.{nothing_recorded}
+use Rattle.raft_packed_wire.specs.declared.record.NamedRecord.{NamedRecord}
+use Rattle.raft_packed_wire.specs.Named.{StandFor}
 use Rattle.proof_requests.specs.proof_packed_servers.Checkpoints.{packed_checkpointed, packed_left_by}
 use Rattle.proof_requests.specs.proof_packed_servers.Servers.{PackedServer, PackedStep, PackedWaitingStep, packed_crashed, packed_flushed_first, packed_new_disk}
 use Rattle.proof_requests.specs.proof_packed_servers.Servers.{packed_waiting_step, packed_with_step}
@@ -24,12 +25,12 @@ use Rattle.proof_requests.specs.raft_packed_server.declared.server.Opened.{Opene
 use Rattle.proof_requests.specs.raft_packed_server.declared.serving.Serving.{Serving}
 use Rattle.proof_requests.specs.raft_packed_server.Checkpoints.{GoesOnWithNewLog, first_batch, with_new_log}
 use Rattle.proof_requests.specs.raft_packed_server.Laws.{IsAtEnd, OpensCrashed, cut_file}
-use Rattle.proof_requests.specs.raft_packed_server.Logs.{HasLog, first_records, left_by, logged_by, restored}
+use Rattle.proof_requests.specs.raft_packed_server.Logs.{HasLog, first_records, left_by, logged_by}
 use Rattle.proof_requests.specs.raft_packed_server.Recovery.{OpensOn}
 use Rattle.proof_requests.specs.raft_packed_server.Represents.{HandsOut, IsHandedOut, Represents, Stands, StandsFor, said_by}
-use Rattle.proof_requests.specs.raft_packed_server.Views.{ServerView, batch_released, is_flushed, released, steps_flushed, steps_released, with_batch, with_taken}
+use Rattle.proof_requests.specs.raft_packed_server.Views.{IsWithTaken, ServerView, batch_released, is_flushed, released, steps_flushed, steps_released, with_batch, with_taken}
 use Rattle.proof_requests.proofs.raft_packed_server_proofs.Crashed.{opens_after_cuts}
-use Rattle.proof_requests.proofs.raft_packed_server_proofs.Logged.{first_is, flushed_made, writes_log}
+use Rattle.proof_requests.proofs.raft_packed_server_proofs.Logged.{AreFirst, first_is, log_more, writes_log}
 use Rattle.proof_requests.proofs.raft_packed_server_proofs.Renewed.{new_logs_go_on}
 use Rattle.proof_requests.proofs.raft_packed_server_proofs.Waiting.{IsBeside, at_end_beside, handed_out, released_records, rest_beside, takes}
 use Rattle.proof_requests.specs.raft_core.declared.driver.OpenedCore.{OpenedCore}
@@ -57,28 +58,29 @@ module _ {S : Type 0} (app : Application S) (codec : Codec S) where
       go (inr old) = inr old.0
 
   -- a disk that has a file, and nothing else, while nothing is on its way
-  pub filed : (log : LogId) (s : PackedServer S) (batches : Batches S) (disk : List ℕ) → HasLog app codec s batches → IsFileOf (logged_by codec) log batches disk → IsStored app codec log s batches 0 disk []
+  pub filed : (log : LogId) (s : PackedServer S) (batches : Batches S) (disk : List ℕ) → HasLog app codec s batches → IsFileOf (logged_by codec) log batches disk → IsStored app codec log s batches [] 0 disk []
   filed log s batches disk has is = go is
     where
-      made : (rest : List ℕ) → file_of (logged_by codec) log batches ≡ disk ++ rest → IsStored app codec log s batches 0 disk []
+      made : (rest : List ℕ) → file_of (logged_by codec) log batches ≡ disk ++ rest → IsStored app codec log s batches [] 0 disk []
       made rest front = record {
         within = omega arith;
-        cut = record { has = has; file = record { writable = has.writable; more = tt; file = disk; is = is; there = omega arith } };
+        cut = record { has = has; stand = tt; file = record { writable = has.writable; more = tt; file = disk; is = is; there = omega arith } };
         rest = rest;
         front = ap (file_of (logged_by codec) log) (append-nil batches) ∙ (front ∙ ap (λ d. d ++ rest) (sym (append-nil disk)));
       }
 
-      go : IsFileOf (logged_by codec) log batches disk → IsStored app codec log s batches 0 disk []
+      go : IsFileOf (logged_by codec) log batches disk → IsStored app codec log s batches [] 0 disk []
       go (inl new) = made (file_of (logged_by codec) log batches) (ap (λ d. d ++ file_of (logged_by codec) log batches) (sym new.0))
       go (inr old) = made [] (sym old ∙ sym (append-nil disk))
 
   -- some of what is on its way comes on disk, and the rest is lost
-  pub spilled : (log : LogId) (s : PackedServer S) (batches : Batches S) (k : ℕ) (disk way there lost : List ℕ) → way ≡ there ++ lost
-      → IsStored app codec log s batches k disk way → IsStored app codec log s batches k (disk ++ there) []
-  spilled log s batches k disk way there lost parts is = record {
+  pub spilled : (log : LogId) (s : PackedServer S) (batches : Batches S) (next : List (NamedRecord S)) (k : ℕ) (disk way there lost : List ℕ)
+      → way ≡ there ++ lost → IsStored app codec log s batches next k disk way → IsStored app codec log s batches next k (disk ++ there) []
+  spilled log s batches next k disk way there lost parts is = record {
     within = is.within;
     cut = record {
       has = is.cut.has;
+      stand = is.cut.stand;
       file = record {
         writable = is.cut.file.writable;
         more = is.cut.file.more;
@@ -97,8 +99,9 @@ module _ {S : Type 0} (app : Application S) (codec : Codec S) where
   }
 
   -- what is on disk is the file with the batch that is being written, cut where the disk ends
-  cut_is : (log : LogId) (s : PackedServer S) (batches : Batches S) (k : ℕ) (disk way : List ℕ) → IsStored app codec log s batches k disk way → cut_file app codec log k s batches (length disk) ≡ disk
-  cut_is log s batches k disk way is =
+  cut_is : (log : LogId) (s : PackedServer S) (batches : Batches S) (next : List (NamedRecord S)) (k : ℕ) (disk way : List ℕ)
+      → IsStored app codec log s batches next k disk way → cut_file app codec log batches next (length disk) ≡ disk
+  cut_is log s batches next k disk way is =
       ap (take (length disk)) (is.front ∙ append_assoc disk way is.rest) ∙ take_at disk (way ++ is.rest) (length disk) refl
 
   -- ---- a server that is made
@@ -107,10 +110,11 @@ module _ {S : Type 0} (app : Application S) (codec : Codec S) where
       → HasServer app codec given (record { node = packed_new_node app given.settings m.id; reserved = 0; waiting = []; disk = packed_new_disk app }) m
   made given m closed none empty = record {
     batches = [];
+    next = [];
     k = 0;
-    stored = subst (λ (w : Option Handed). IsStored app codec (log_on m) fresh [] 0 m.disk.items (bytes_of w)) (sym none)
-        (filed (log_on m) fresh [] m.disk.items (record { writable = tt; disk = refl }) (inl (empty, refl)));
-    runs = subst (λ (c : Option (CoreView S)). Runs codec given (log_on m) fresh [] 0 m.disk.items m.written (server_in c)) (sym closed) none;
+    stored = subst (λ (w : Option Handed). IsStored app codec (log_on m) fresh [] [] 0 m.disk.items (bytes_of w)) (sym none)
+        (filed (log_on m) fresh [] m.disk.items (record { writable = tt; records = []; stand = tt; disk = refl }) (inl (empty, refl)));
+    runs = subst (λ (c : Option (CoreView S)). Runs app codec given (log_on m) fresh [] [] 0 m.disk.items m.written (server_in c)) (sym closed) none;
     named = subst (λ (c : Option (CoreView S)). IfSome c (λ x. x.id ≡ m.id)) (sym closed) tt;
   }
     where
@@ -129,8 +133,8 @@ module _ {S : Type 0} (app : Application S) (codec : Codec S) where
     abbrev way : List ℕ
     way = bytes_of m.written
 
-    runs_on : (core : CoreView S) → m.core ≡ Some core → Runs codec given log s is.batches is.k disk m.written (Some core.server)
-    runs_on core is_open = subst (λ (c : Option (CoreView S)). Runs codec given log s is.batches is.k disk m.written (server_in c)) is_open is.runs
+    runs_on : (core : CoreView S) → m.core ≡ Some core → Runs app codec given log s is.batches is.next is.k disk m.written (Some core.server)
+    runs_on core is_open = subst (λ (c : Option (CoreView S)). Runs app codec given log s is.batches is.next is.k disk m.written (server_in c)) is_open is.runs
 
     named_on : (core : CoreView S) → m.core ≡ Some core → core.id ≡ m.id
     named_on core is_open = subst (λ (c : Option (CoreView S)). IfSome c (λ x. x.id ≡ m.id)) is_open is.named
@@ -139,9 +143,10 @@ module _ {S : Type 0} (app : Application S) (codec : Codec S) where
     pub recored : (core new : CoreView S) → m.core ≡ Some core → new.server ≡ core.server → new.id ≡ core.id → HasServer app codec given s (record m { core = Some new })
     recored core new is_open same same_id = record {
       batches = is.batches;
+      next = is.next;
       k = is.k;
       stored = is.stored;
-      runs = subst (λ (v : ServerView S). Runs codec given log s is.batches is.k disk m.written (Some v)) (sym same) (runs_on core is_open);
+      runs = subst (λ (v : ServerView S). Runs app codec given log s is.batches is.next is.k disk m.written (Some v)) (sym same) (runs_on core is_open);
       named = same_id ∙ named_on core is_open;
     }
 
@@ -153,64 +158,68 @@ module _ {S : Type 0} (app : Application S) (codec : Codec S) where
       abbrev waits : PackedWaitingStep S
       waits = packed_waiting_step app given s.reserved s.node step
 
-      same_first : one_batch (first_records is.k (s.waiting ++ waits ∷ [])) ≡ one_batch (first_records is.k s.waiting)
-      same_first = ap (λ ws. one_batch (left_by ws)) (take-append-le is.k s.waiting (waits ∷ []) is.stored.within)
+      same_first : first_records is.k (s.waiting ++ waits ∷ []) ≡ first_records is.k s.waiting
+      same_first = ap left_by (take-append-le is.k s.waiting (waits ∷ []) is.stored.within)
 
-      stored_more : IsStored app codec log next is.batches is.k disk way
+      stored_more : IsStored app codec log next is.batches is.next is.k disk way
       stored_more = record {
         within = omega (arith, is.stored.within, length-append s.waiting (waits ∷ []));
         cut = record {
-          has = record { writable = is.stored.cut.has.writable; disk = is.stored.cut.has.disk };
-          file = record {
-            writable = is.stored.cut.file.writable;
-            more = subst (AreBatchesOf (logged_by codec)) (sym same_first) is.stored.cut.file.more;
-            file = is.stored.cut.file.file;
-            is = is.stored.cut.file.is;
-            there = is.stored.cut.file.there;
+          has = record {
+            writable = is.stored.cut.has.writable;
+            records = is.stored.cut.has.records;
+            stand = is.stored.cut.has.stand;
+            disk = is.stored.cut.has.disk;
           };
+          stand = subst (StandFor app s.disk.store is.next) (sym same_first) is.stored.cut.stand;
+          file = is.stored.cut.file;
         };
         rest = is.stored.rest;
-        front = ap (λ more. file_of (logged_by codec) log (is.batches ++ more)) same_first ∙ is.stored.front;
+        front = is.stored.front;
       }
 
-      goes_more : (v : Serving S) (w : Option Handed) → GoesOn codec log s is.batches is.k disk w v → GoesOn codec log next is.batches is.k disk w (with_taken app given step v)
-      goes_more v None goes = record { idle = goes.idle; at_end = record { file = goes.at_end.file; tail = goes.at_end.tail } }
-      goes_more v (Some w) goes = record {
+      goes_more : (v : Serving S) (named : List (NamedRecord S)) (w : Option Handed) → GoesOn codec log is.batches is.next is.k disk w v
+          → GoesOn codec log is.batches is.next is.k disk w (with_taken app given step named v)
+      goes_more v named None goes = record { idle = goes.idle; at_end = record { file = goes.at_end.file; tail = goes.at_end.tail } }
+      goes_more v named (Some w) goes = record {
         batch = goes.batch;
         is = goes.is;
         steps = goes.steps;
         end = goes.end;
-        at_end = subst (λ more. IsAtEnd codec log (is.batches ++ more) (disk ++ w.bytes) (with_taken app given step v)) (sym same_first)
-            (record { file = goes.at_end.file; tail = goes.at_end.tail });
+        at_end = record { file = goes.at_end.file; tail = goes.at_end.tail };
       }
 
-      serves_more : (o p : Option (Serving S)) → p ≡ option_map (with_taken app given step) o → Serves codec log s is.batches is.k disk m.written o → Serves codec log next is.batches is.k disk m.written p
-      serves_more None p same serves = subst (Serves codec log next is.batches is.k disk m.written) (sym same) tt
-      serves_more (Some v) p same serves =
-          subst (Serves codec log next is.batches is.k disk m.written) (sym same) (takes app given step s v serves.0, goes_more v m.written serves.1)
+      serves_more : (o p : Option (Serving S)) → IsWithTaken app given step o p → Serves app codec log s is.batches is.next is.k disk m.written o
+          → Serves app codec log next is.batches is.next is.k disk m.written p
+      serves_more None p taken serves = subst (Serves app codec log next is.batches is.next is.k disk m.written) (sym taken) tt
+      serves_more (Some v) p taken serves =
+          subst (Serves app codec log next is.batches is.next is.k disk m.written) (sym taken.1.1)
+          (takes app given step taken.0 s v serves.0 taken.1.0, goes_more v taken.0 m.written serves.1)
 
-      pub stepped : (core new : CoreView S) → m.core ≡ Some core → new.server.serving ≡ option_map (with_taken app core.server.given step) core.server.serving
+      pub stepped : (core new : CoreView S) → m.core ≡ Some core → IsWithTaken app core.server.given step core.server.serving new.server.serving
           → new.server.given ≡ core.server.given → new.id ≡ core.id → HasServer app codec given (packed_with_step app given step s) (record m { core = Some new })
       stepped core new is_open taken given_same same_id =
           let runs = runs_on core is_open in
           record {
             batches = is.batches;
+            next = is.next;
             k = is.k;
             stored = stored_more;
             runs = (
               given_same ∙ runs.0,
-              serves_more core.server.serving new.server.serving (taken ∙ ap (λ (g : Given). option_map (with_taken app g step) core.server.serving) runs.0) runs.1,
+              serves_more core.server.serving new.server.serving
+                  (subst (λ (g : Given). IsWithTaken app g step core.server.serving new.server.serving) runs.0 taken) runs.1,
             );
             named = same_id ∙ named_on core is_open;
           }
 
     -- the records that wait are handed out
-    module _ (v : Serving S) (w : Written) (stands : Stands s v) (ends : IsAtEnd codec log is.batches disk v) (out : IsHandedOut codec v w) where
+    module _ (v : Serving S) (w : Written) (stands : Stands app s v) (ends : IsAtEnd codec log is.batches disk v) (out : IsHandedOut codec v w) where
       abbrev count : ℕ
       count = v.steps
 
-      first : one_batch (first_records v.steps s.waiting) ≡ v.records ∷ []
-      first = (first_is codec s v out.none_before stands out.batch).batch
+      first : AreFirst app s v
+      first = first_is app codec s v out.none_before stands out.batch
 
       behind : IsAtEnd codec log (is.batches ++ v.records ∷ []) (disk ++ w.bytes.items) (with_batch codec v)
       behind = (writes_log app codec log s is.batches disk v w is.stored.cut.has stands ends out).1
@@ -224,50 +233,52 @@ module _ {S : Type 0} (app : Application S) (codec : Codec S) where
           go (inl new) = absurd (let none : ◌≡◌ {A = Option LogId} None (Some log) = new.2 in cc)
           go (inr old) = old.0
 
-      handed_stored : IsStored app codec log s is.batches count disk w.bytes.items
+      handed_stored : IsStored app codec log s is.batches v.records count disk w.bytes.items
       handed_stored = record {
-        within = (first_is codec s v out.none_before stands out.batch).within;
+        within = first.within;
         cut = record {
           has = is.stored.cut.has;
+          stand = first.stand;
           file = record {
             writable = is.stored.cut.has.writable;
-            more = subst (AreBatchesOf (logged_by codec)) (sym first) (out.batch, tt);
+            more = subst (AreBatchesOf (logged_by codec)) (sym first.batch) (out.batch, tt);
             file = disk;
             is = at_file log is.batches disk v ends;
             there = omega arith;
           };
         };
         rest = [];
-        front = ap (λ more. file_of (logged_by codec) log (is.batches ++ more)) first ∙ (sym whole ∙ sym (append-nil (disk ++ w.bytes.items)));
+        front = ap (λ more. file_of (logged_by codec) log (is.batches ++ more)) first.batch ∙ (sym whole ∙ sym (append-nil (disk ++ w.bytes.items)));
       }
 
-      goes_behind : GoesOnBehind codec log s is.batches count disk (handed w) (with_batch codec v)
+      goes_behind : GoesOnBehind codec log is.batches v.records count disk (handed w) (with_batch codec v)
       goes_behind = record {
         batch = record { end = (with_batch codec v).tail.position; steps = v.steps; outputs = v.outputs };
         is = refl;
         steps = refl;
         end = sym out.end;
-        at_end = subst (λ more. IsAtEnd codec log (is.batches ++ more) (disk ++ w.bytes.items) (with_batch codec v)) (sym first) behind;
+        at_end = subst (λ more. IsAtEnd codec log (is.batches ++ more) (disk ++ w.bytes.items) (with_batch codec v)) (sym first.batch) behind;
       }
 
     pub wrote : (core new : CoreView S) (w : Written) → m.core ≡ Some core → HandsOut codec core.server.serving (Some w) new.server.serving
         → new.server.given ≡ core.server.given → new.id ≡ core.id → HasServer app codec given s (record m { core = Some new; written = Some (handed w) })
     wrote core new w is_open out given_same same_id = go core.server.serving m.written out runs.1
       where
-        runs : Runs codec given log s is.batches is.k disk m.written (Some core.server)
+        runs : Runs app codec given log s is.batches is.next is.k disk m.written (Some core.server)
         runs = runs_on core is_open
 
-        go : (o : Option (Serving S)) (before : Option Handed) → HandsOut codec o (Some w) new.server.serving → Serves codec log s is.batches is.k disk before o
+        go : (o : Option (Serving S)) (before : Option Handed) → HandsOut codec o (Some w) new.server.serving → Serves app codec log s is.batches is.next is.k disk before o
             → HasServer app codec given s (record m { core = Some new; written = Some (handed w) })
         go None before hands serves = absurd hands
         go (Some v) None hands serves = record {
           batches = is.batches;
+          next = v.records;
           k = v.steps;
           stored = handed_stored v w serves.0 serves.1.at_end hands.0;
           runs = (
             given_same ∙ runs.0,
-            subst (Serves codec log s is.batches v.steps disk (Some (handed w))) (sym hands.1)
-                (handed_out codec s v hands.0.none_before serves.0, goes_behind v w serves.0 serves.1.at_end hands.0),
+            subst (Serves app codec log s is.batches v.records v.steps disk (Some (handed w))) (sym hands.1)
+                (handed_out codec app s v hands.0.none_before serves.0, goes_behind v w serves.0 serves.1.at_end hands.0),
           );
           named = same_id ∙ named_on core is_open;
         }
@@ -276,12 +287,11 @@ module _ {S : Type 0} (app : Application S) (codec : Codec S) where
     -- Steps leave, and what was handed out is on disk: the disk has these batches, and the server goes on behind them with nothing on its way
     record Settles (position : ℕ) (v : Serving S) (bytes : List ℕ) : Type 0 where
       batches : Batches S
-      writable : AreBatchesOf (logged_by codec) batches
-      makes : (packed_flushed_first app (steps_released position (Some v)) s).disk ≡ restored app (all_of batches)
+      has : HasLog app codec (packed_flushed_first app (steps_released position (Some v)) s) batches
       idle : (released position v).1.written ≡ None
       at_end : IsAtEnd codec log batches bytes (released position v).1
 
-    module _ (position : ℕ) (v : Serving S) (stands : Stands s v) where
+    module _ (position : ℕ) (v : Serving S) (stands : Stands app s v) where
       -- the server once what was on its way is on disk
       abbrev landed : Serving S
       landed = (batch_released position v).1
@@ -293,24 +303,26 @@ module _ {S : Type 0} (app : Application S) (codec : Codec S) where
             | Some b ↦ if is_flushed position b then (b.outputs, record v { written = None }) else (nothing_recorded, v)
           ]).1
 
-      abbrev made_by : Batches S → Type 0
-      made_by batches = (packed_flushed_first app (steps_released position (Some v)) s).disk ≡ restored app (all_of batches)
-
-      made_with : (k : ℕ) → steps_flushed position v.written ≡ k → made_by (is.batches ++ one_batch (first_records k s.waiting))
-      made_with k counted =
-          flushed_made app (steps_released position (Some v)) s is.batches is.stored.cut.has.disk
-          ∙ ap (λ rs. restored app (all_of (is.batches ++ one_batch rs))) (released_records position s v stands ∙ ap (λ j. first_records j s.waiting) counted)
+      -- what the steps leave that leave now is what those of the batch do
+      has_with : (next : List (NamedRecord S)) (k : ℕ) → steps_flushed position v.written ≡ k → AreBatchesOf (logged_by codec) (one_batch next)
+          → StandFor app s.disk.store next (first_records k s.waiting)
+          → HasLog app codec (packed_flushed_first app (steps_released position (Some v)) s) (is.batches ++ one_batch next)
+      has_with next k counted writable stand =
+          log_more app codec (steps_released position (Some v)) s is.batches next is.stored.cut.has writable
+          (subst (StandFor app s.disk.store next)
+          (sym (released_records app position s v stands ∙ ap (λ j. first_records j s.waiting) counted)) stand)
 
       behind_it : (u : Serving S) → landed ≡ u → IsBeside u (released position v).1
       behind_it u same = subst (λ x. IsBeside x (released position v).1) same (rest_beside landed)
 
-      settles : (o : Option Handed) → IfSome o (λ w. position ≡ w.end) → GoesOn codec log s is.batches is.k disk o v → Settles position v (disk ++ bytes_of o)
+      settles : (o : Option Handed) → IfSome o (λ w. position ≡ w.end) → GoesOn codec log is.batches is.next is.k disk o v
+          → Settles position v (disk ++ bytes_of o)
       settles None end goes =
           let on : IsBeside v (released position v).1 = behind_it v (ap landed_by goes.idle) in
           record {
             batches = is.batches;
-            writable = is.stored.cut.has.writable;
-            makes = made_with 0 (ap (steps_flushed position) goes.idle) ∙ ap (λ bs. restored app (all_of bs)) (append-nil is.batches);
+            has = subst (HasLog app codec (packed_flushed_first app (steps_released position (Some v)) s)) (append-nil is.batches)
+                (has_with [] 0 (ap (steps_flushed position) goes.idle) tt tt);
             idle = on.written ∙ goes.idle;
             at_end = at_end_beside codec log is.batches (disk ++ []) v (released position v).1 on
                 (subst (λ bytes. IsAtEnd codec log is.batches bytes v) (sym (append-nil disk)) goes.at_end);
@@ -323,11 +335,10 @@ module _ {S : Type 0} (app : Application S) (codec : Codec S) where
           ap (steps_flushed position) goes.is ∙ (ap (λ (b : Bool). if b then goes.batch.steps else 0) flagged ∙ goes.steps) in
           let on : IsBeside (record v { written = None }) (released position v).1 = behind_it (record v { written = None }) emptied in
           record {
-            batches = is.batches ++ one_batch (first_records is.k s.waiting);
-            writable = batches_join (logged_by codec) is.batches (one_batch (first_records is.k s.waiting)) is.stored.cut.has.writable is.stored.cut.file.more;
-            makes = made_with is.k counted;
+            batches = is.batches ++ one_batch is.next;
+            has = has_with is.next is.k counted is.stored.cut.file.more is.stored.cut.stand;
             idle = on.written;
-            at_end = at_end_beside codec log (is.batches ++ one_batch (first_records is.k s.waiting)) (disk ++ w.bytes) (record v { written = None }) (released position v).1 on
+            at_end = at_end_beside codec log (is.batches ++ one_batch is.next) (disk ++ w.bytes) (record v { written = None }) (released position v).1 on
                 (record { file = goes.at_end.file; tail = goes.at_end.tail });
           }
 
@@ -338,8 +349,8 @@ module _ {S : Type 0} (app : Application S) (codec : Codec S) where
 
     pub told : (core new : CoreView S) (position : ℕ) (outputs : PackedRecords S) (n : Machine S) → m.core ≡ Some core → IfSome m.written (λ w. position ≡ w.end)
         → (core.server.serving ≡ None → ⊥)
-        → ((t : PackedServer S) → Represents t core.server
-        → (outputs ≡ said_by (take (steps_released position core.server.serving) t.waiting)) × Represents (packed_flushed_first app (steps_released position core.server.serving) t) new.server)
+        → ((t : PackedServer S) → Represents app t core.server
+        → (outputs ≡ said_by (take (steps_released position core.server.serving) t.waiting)) × Represents app (packed_flushed_first app (steps_released position core.server.serving) t) new.server)
         → new.server.serving ≡ option_map (λ v. (released position v).1) core.server.serving → new.server.given ≡ core.server.given → new.id ≡ core.id
         → n.id ≡ m.id → n.core ≡ Some new → n.written ≡ None → n.disk.items ≡ flushed m
         → Flushed (steps_released position core.server.serving) outputs n
@@ -348,55 +359,57 @@ module _ {S : Type 0} (app : Application S) (codec : Codec S) where
         server : ServerView S
         server = core.server
 
-        runs : Runs codec given log s is.batches is.k disk m.written (Some core.server)
+        runs : Runs app codec given log s is.batches is.next is.k disk m.written (Some core.server)
         runs = runs_on core is_open
 
-        go : (o : Option (Serving S)) → server.serving ≡ o → Serves codec log s is.batches is.k disk m.written o → Flushed (steps_released position server.serving) outputs n
+        go : (o : Option (Serving S)) → server.serving ≡ o → Serves app codec log s is.batches is.next is.k disk m.written o → Flushed (steps_released position server.serving) outputs n
         go None is_none serving = absurd (serves is_none)
         go (Some v) is_some serving =
             let k : ℕ = steps_released position (Some v) in
             let z : Settles position v (disk ++ way) = settles position v serving.0 m.written end serving.1 in
             let next : Serving S = (released position v).1 in
-            let says : (outputs ≡ said_by (take k s.waiting)) × Represents (packed_flushed_first app k s) new.server =
-            subst (λ o. (outputs ≡ said_by (take (steps_released position o) s.waiting)) × Represents (packed_flushed_first app (steps_released position o) s) new.server) is_some
-            (flushes s (subst (StandsFor s) (sym is_some) serving.0)) in
+            let says : (outputs ≡ said_by (take k s.waiting)) × Represents app (packed_flushed_first app k s) new.server =
+            subst (λ o. (outputs ≡ said_by (take (steps_released position o) s.waiting)) × Represents app (packed_flushed_first app (steps_released position o) s) new.server) is_some
+            (flushes s (subst (StandsFor app s) (sym is_some) serving.0)) in
             let left : new.server.serving ≡ Some next = empties ∙ ap (option_map (λ x. (released position x).1)) is_some in
             let ends : IsAtEnd codec (log_on n) z.batches n.disk.items next =
             subst (λ id. IsAtEnd codec (log_of 1 id) z.batches n.disk.items next) (sym same_id) (subst (λ d. IsAtEnd codec log z.batches d next) (sym items) z.at_end) in
-            let has : HasLog app codec (packed_flushed_first app k s) z.batches = record { writable = z.writable; disk = z.makes } in
+            let has : HasLog app codec (packed_flushed_first app k s) z.batches = z.has in
             subst (λ o. Flushed (steps_released position o) outputs n) (sym is_some) (record {
               says = says.0;
               stands = record {
                 batches = z.batches;
+                next = [];
                 k = 0;
-                stored = subst (λ (x : Option Handed). IsStored app codec (log_on n) (packed_flushed_first app k s) z.batches 0 n.disk.items (bytes_of x)) (sym none)
+                stored = subst (λ (x : Option Handed). IsStored app codec (log_on n) (packed_flushed_first app k s) z.batches [] 0 n.disk.items (bytes_of x)) (sym none)
                     (filed (log_on n) (packed_flushed_first app k s) z.batches n.disk.items has (at_file (log_on n) z.batches n.disk.items next ends));
                 named = subst (λ (c : Option (CoreView S)). IfSome c (λ x. x.id ≡ n.id)) (sym now) (new_id ∙ (named_on core is_open ∙ sym same_id));
-                runs = subst (λ (c : Option (CoreView S)). Runs codec given (log_on n) (packed_flushed_first app k s) z.batches 0 n.disk.items n.written (server_in c)) (sym now) (
+                runs = subst (λ (c : Option (CoreView S)). Runs app codec given (log_on n) (packed_flushed_first app k s) z.batches [] 0 n.disk.items n.written (server_in c)) (sym now) (
                   given_same ∙ runs.0,
-                  subst (λ x. Serves codec (log_on n) (packed_flushed_first app k s) z.batches 0 n.disk.items x new.server.serving) (sym none)
-                      (subst (Serves codec (log_on n) (packed_flushed_first app k s) z.batches 0 n.disk.items None) (sym left)
-                      (subst (StandsFor (packed_flushed_first app k s)) left says.1, record { idle = z.idle; at_end = ends })),
+                  subst (λ x. Serves app codec (log_on n) (packed_flushed_first app k s) z.batches [] 0 n.disk.items x new.server.serving) (sym none)
+                      (subst (Serves app codec (log_on n) (packed_flushed_first app k s) z.batches [] 0 n.disk.items None) (sym left)
+                      (subst (StandsFor app (packed_flushed_first app k s)) left says.1, record { idle = z.idle; at_end = ends })),
                 );
               };
             })
 
     -- what was handed out is lost, but for some of its front
     left_over : (there lost : List ℕ) (n : Machine S) → way ≡ there ++ lost → n.id ≡ m.id → n.disk.items ≡ m.disk.items ++ there → n.written ≡ None
-        → IsStored app codec (log_on n) s is.batches is.k n.disk.items (bytes_of n.written)
+        → IsStored app codec (log_on n) s is.batches is.next is.k n.disk.items (bytes_of n.written)
     left_over there lost n parts same_id items none =
-        subst (λ id. IsStored app codec (log_of 1 id) s is.batches is.k n.disk.items (bytes_of n.written)) (sym same_id)
-        (subst (λ (x : Option Handed). IsStored app codec log s is.batches is.k n.disk.items (bytes_of x)) (sym none)
-        (subst (λ d. IsStored app codec log s is.batches is.k d []) (sym items)
-        (spilled log s is.batches is.k disk way there lost parts is.stored)))
+        subst (λ id. IsStored app codec (log_of 1 id) s is.batches is.next is.k n.disk.items (bytes_of n.written)) (sym same_id)
+        (subst (λ (x : Option Handed). IsStored app codec log s is.batches is.next is.k n.disk.items (bytes_of x)) (sym none)
+        (subst (λ d. IsStored app codec log s is.batches is.next is.k d []) (sym items)
+        (spilled log s is.batches is.next is.k disk way there lost parts is.stored)))
 
     -- the server stops
     pub left : (count : ℕ) (n : Machine S) → n.id ≡ m.id → n.core ≡ None → n.written ≡ None → n.disk.items ≡ torn count m → HasServer app codec given s n
     left count n same_id closed none items = record {
       batches = is.batches;
+      next = is.next;
       k = is.k;
       stored = left_over (take count way) (drop count way) n (sym (take-append-drop count way)) same_id items none;
-      runs = subst (λ (c : Option (CoreView S)). Runs codec given (log_on n) s is.batches is.k n.disk.items n.written (server_in c)) (sym closed) none;
+      runs = subst (λ (c : Option (CoreView S)). Runs app codec given (log_on n) s is.batches is.next is.k n.disk.items n.written (server_in c)) (sym closed) none;
       named = subst (λ (c : Option (CoreView S)). IfSome c (λ x. x.id ≡ n.id)) (sym closed) tt;
     }
 
@@ -404,10 +417,10 @@ module _ {S : Type 0} (app : Application S) (codec : Codec S) where
     pub reads : IsCodec codec → (o : Opened S) → OpensOn app codec given log disk 0 o → OpensCrashed app codec given log is.k 0 s disk o
     reads inverse o opens =
         subst (λ bytes. OpensCrashed app codec given log is.k 0 s bytes o) is_cut
-        (opens_after_cuts app codec inverse given log is.k 0 s is.batches (length disk) o is.stored.cut (subst (λ bytes. OpensOn app codec given log bytes 0 o) (sym is_cut) opens))
+        (opens_after_cuts app codec inverse given log is.k 0 s is.batches is.next (length disk) o is.stored.cut (subst (λ bytes. OpensOn app codec given log bytes 0 o) (sym is_cut) opens))
       where
-        is_cut : cut_file app codec log is.k s is.batches (length disk) ≡ disk
-        is_cut = cut_is log s is.batches is.k disk way is.stored
+        is_cut : cut_file app codec log is.batches is.next (length disk) ≡ disk
+        is_cut = cut_is log s is.batches is.next is.k disk way is.stored
 
     pub opened : (o : OpenedCore S) (n : Machine S) → m.core ≡ None → (crash : OpensCrashed app codec given log is.k 0 s disk (record { server = o.core.server; end = o.end }))
         → o.core.server.given ≡ given → o.core.id ≡ m.id → n.id ≡ m.id → n.core ≡ Some o.core → n.written ≡ m.written
@@ -415,9 +428,9 @@ module _ {S : Type 0} (app : Application S) (codec : Codec S) where
     opened o n is_closed crash given_same core_id same_id now same_written items = go o.core.server.serving refl crash.stands
       where
         none : n.written ≡ None
-        none = same_written ∙ subst (λ (c : Option (CoreView S)). Runs codec given log s is.batches is.k disk m.written (server_in c)) is_closed is.runs
+        none = same_written ∙ subst (λ (c : Option (CoreView S)). Runs app codec given log s is.batches is.next is.k disk m.written (server_in c)) is_closed is.runs
 
-        go : (v : Option (Serving S)) → o.core.server.serving ≡ v → StandsFor (packed_crashed app given m.id crash.survive 0 s) v → HasServer app codec given (packed_crashed app given m.id crash.survive 0 s) n
+        go : (v : Option (Serving S)) → o.core.server.serving ≡ v → StandsFor app (packed_crashed app given m.id crash.survive 0 s) v → HasServer app codec given (packed_crashed app given m.id crash.survive 0 s) n
         go None serves stands = absurd stands
         go (Some v) serves stands =
             let ends : IsAtEnd codec (log_on n) crash.batches n.disk.items v =
@@ -425,14 +438,15 @@ module _ {S : Type 0} (app : Application S) (codec : Codec S) where
             (subst (λ d. IsAtEnd codec log crash.batches d v) (sym items) (crash.goes_on v serves)) in
             record {
               batches = crash.batches;
+              next = [];
               k = 0;
-              stored = subst (λ (x : Option Handed). IsStored app codec (log_on n) (packed_crashed app given m.id crash.survive 0 s) crash.batches 0 n.disk.items (bytes_of x)) (sym none)
+              stored = subst (λ (x : Option Handed). IsStored app codec (log_on n) (packed_crashed app given m.id crash.survive 0 s) crash.batches [] 0 n.disk.items (bytes_of x)) (sym none)
                   (filed (log_on n) (packed_crashed app given m.id crash.survive 0 s) crash.batches n.disk.items crash.has (at_file (log_on n) crash.batches n.disk.items v ends));
               named = subst (λ (c : Option (CoreView S)). IfSome c (λ x. x.id ≡ n.id)) (sym now) (core_id ∙ sym same_id);
-              runs = subst (λ (c : Option (CoreView S)). Runs codec given (log_on n) (packed_crashed app given m.id crash.survive 0 s) crash.batches 0 n.disk.items n.written (server_in c)) (sym now) (
+              runs = subst (λ (c : Option (CoreView S)). Runs app codec given (log_on n) (packed_crashed app given m.id crash.survive 0 s) crash.batches [] 0 n.disk.items n.written (server_in c)) (sym now) (
                 given_same,
-                subst (λ x. Serves codec (log_on n) (packed_crashed app given m.id crash.survive 0 s) crash.batches 0 n.disk.items x o.core.server.serving) (sym none)
-                    (subst (Serves codec (log_on n) (packed_crashed app given m.id crash.survive 0 s) crash.batches 0 n.disk.items None) (sym serves)
+                subst (λ x. Serves app codec (log_on n) (packed_crashed app given m.id crash.survive 0 s) crash.batches [] 0 n.disk.items x o.core.server.serving) (sym none)
+                    (subst (Serves app codec (log_on n) (packed_crashed app given m.id crash.survive 0 s) crash.batches [] 0 n.disk.items None) (sym serves)
                     (stands, record { idle = crash.idle v serves; at_end = ends })),
               );
             }
@@ -447,15 +461,16 @@ module _ {S : Type 0} (app : Application S) (codec : Codec S) where
       waits = goes_on.waits;
       stands = record {
         batches = batches;
+        next = [];
         k = 0;
-        stored = subst (λ (x : Option Handed). IsStored app codec (log_on n) t batches 0 n.disk.items (bytes_of x)) (sym none)
+        stored = subst (λ (x : Option Handed). IsStored app codec (log_on n) t batches [] 0 n.disk.items (bytes_of x)) (sym none)
             (filed (log_on n) t batches n.disk.items goes_on.has (at_file (log_on n) batches n.disk.items next ends));
         named = subst (λ (c : Option (CoreView S)). IfSome c (λ x. x.id ≡ n.id)) (sym b.now)
             (ap (λ (x : CoreView S). x.id) b.does.rest ∙ (named_on b.core b.is_open ∙ sym b.id));
-        runs = subst (λ (c : Option (CoreView S)). Runs codec given (log_on n) t batches 0 n.disk.items n.written (server_in c)) (sym b.now) (
+        runs = subst (λ (c : Option (CoreView S)). Runs app codec given (log_on n) t batches [] 0 n.disk.items n.written (server_in c)) (sym b.now) (
           ap (λ (x : CoreView S). x.server.given) b.does.rest ∙ runs.0,
-          subst (λ x. Serves codec (log_on n) t batches 0 n.disk.items x b.next.server.serving) (sym none)
-              (subst (Serves codec (log_on n) t batches 0 n.disk.items None) (sym (ap (λ (x : CoreView S). x.server.serving) b.does.rest))
+          subst (λ x. Serves app codec (log_on n) t batches [] 0 n.disk.items x b.next.server.serving) (sym none)
+              (subst (Serves app codec (log_on n) t batches [] 0 n.disk.items None) (sym (ap (λ (x : CoreView S). x.server.serving) b.does.rest))
               (goes_on.stands, record { idle = b.does.is_new.clear.0; at_end = ends })),
         );
       };
@@ -473,17 +488,17 @@ module _ {S : Type 0} (app : Application S) (codec : Codec S) where
         batches : Batches S
         batches = first_batch v ∷ []
 
-        runs : Runs codec given log s is.batches is.k disk m.written (Some b.core.server)
+        runs : Runs app codec given log s is.batches is.next is.k disk m.written (Some b.core.server)
         runs = runs_on b.core b.is_open
 
-        serves : Serves codec log s is.batches is.k disk m.written (Some v)
-        serves = subst (Serves codec log s is.batches is.k disk m.written) b.does.serves runs.1
+        serves : Serves app codec log s is.batches is.next is.k disk m.written (Some v)
+        serves = subst (Serves app codec log s is.batches is.next is.k disk m.written) b.does.serves runs.1
 
         goes_on : GoesOnWithNewLog app codec log s v b.log
         goes_on = new_logs_go_on app codec log s v b.log serves.0 b.does.is_new
 
         -- nothing is on its way to the disk
-        none_written : (o : Option Handed) → GoesOn codec log s is.batches is.k disk o v → o ≡ None
+        none_written : (o : Option Handed) → GoesOn codec log is.batches is.next is.k disk o v → o ≡ None
         none_written None goes = refl
         none_written (Some w) goes = absurd (let there : ◌≡◌ {A = Option (Batch S)} (Some goes.batch) None = sym goes.is ∙ b.does.is_new.clear.0 in cc)
 

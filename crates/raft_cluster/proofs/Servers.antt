@@ -1,6 +1,5 @@
 -- A machine stands for a server of the model, whatever its calls do to both: it has that server, but for what no start reads on disk.
 use Rattle.std.proofs.Common.{ℕ, zero, suc, ◌≡◌, ◌∙◌, List, [], ◌∷◌, take, None, Some, refl, sym, ap, subst}
-use Rattle.std.specs.Option.{option_map}
 use Rattle.raft_node.specs.declared.given.Given.{Given}
 use Rattle.raft_codec.specs.Codec.{Codec}
 use Rattle.proof_packed.specs.Nodes.{PackedRecords}
@@ -14,10 +13,10 @@ use Rattle.proof_requests.proofs.proof_packed_servers_proofs.Checkpoints.{all_al
 use Rattle.proof_requests.specs.raft_packed_server.declared.batch.Written.{Written}
 use Rattle.proof_requests.specs.raft_packed_server.Laws.{OpensCrashed}
 use Rattle.proof_requests.specs.raft_packed_server.Represents.{HandsOut, said_by}
-use Rattle.proof_requests.specs.raft_packed_server.Views.{with_taken}
+use Rattle.proof_requests.specs.raft_packed_server.Views.{IsWithTaken}
 use Rattle.proof_requests.specs.raft_core.declared.driver.OpenedCore.{OpenedCore}
 use Rattle.proof_requests.specs.raft_core.declared.output.Output.{Output}
-use Rattle.proof_requests.specs.raft_core.Steps.{with_all_taken, with_steps}
+use Rattle.proof_requests.specs.raft_core.Steps.{IsWithAllTaken, with_steps}
 use Rattle.proof_requests.specs.raft_core.Views.{CoreView}
 use Rattle.proof_requests.proofs.Queues.{one_own}
 use Rattle.raft_cluster.specs.declared.machine.Machine.{Machine}
@@ -120,7 +119,7 @@ module _ {S : Type 0} (app : Application S) (codec : Codec S) where
 
     -- a step is taken
     stepped : (step : PackedStep S) (core new : CoreView S) → m.core ≡ Some core
-        → new.server.serving ≡ option_map (with_taken app core.server.given step) core.server.serving → new.server.given ≡ core.server.given
+        → IsWithTaken app core.server.given step core.server.serving new.server.serving → new.server.given ≡ core.server.given
         → new.id ≡ core.id → IsServer app codec given (packed_with_step app given step s) (record m { core = Some new })
     stepped step core new is_open taken given_same same_id = record {
       disk = is.disk;
@@ -183,11 +182,11 @@ module _ {S : Type 0} (app : Application S) (codec : Codec S) where
 
   -- steps are taken, in order
   pub steps_taken : (given : Given) (steps : List (PackedStep S)) (s : PackedServer S) (m : Machine S) (core new : CoreView S) → IsServer app codec given s m → m.core ≡ Some core
-      → new.server.serving ≡ with_all_taken app core.server.given steps core.server.serving → new.server.given ≡ core.server.given → new.id ≡ core.id
+      → IsWithAllTaken app core.server.given steps core.server.serving new.server.serving → new.server.given ≡ core.server.given → new.id ≡ core.id
       → IsServer app codec given (with_steps app given steps s) (record m { core = Some new })
   steps_taken given [] s m core new is is_open taken given_same same_id =
       recored given s m is core new is_open (λ i. record { given = given_same i; serving = taken i }) same_id
   steps_taken given (step ∷ steps) s m core new is is_open taken given_same same_id =
-      let mid : CoreView S = record core { server = record { given = core.server.given; serving = option_map (with_taken app core.server.given step) core.server.serving } } in
+      let mid : CoreView S = record core { server = record { given = core.server.given; serving = taken.0 } } in
       steps_taken given steps (packed_with_step app given step s) (record m { core = Some mid }) mid new
-      (stepped given s m is step core mid is_open refl refl refl) refl taken given_same same_id
+      (stepped given s m is step core mid is_open taken.1.0 refl refl) refl taken.1.1 given_same same_id

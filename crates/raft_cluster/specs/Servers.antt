@@ -6,14 +6,14 @@ use Rattle.raft_node.specs.declared.given.Given.{Given}
 use Rattle.raft_codec.specs.Codec.{Codec}
 use Rattle.proof_requests.specs.proof_logs.Batches.{file_of, one_batch}
 use Rattle.proof_requests.specs.proof_logs.Files.{log_of}
-use Rattle.proof_packed.specs.Stores.{Application, Packed}
-use Rattle.raft_packed_wire.specs.declared.record.PackedRecord.{PackedRecord}
+use Rattle.proof_packed.specs.Stores.{Application}
+use Rattle.raft_packed_wire.specs.declared.record.NamedRecord.{NamedRecord}
 use Rattle.proof_requests.specs.proof_packed_servers.Checkpoints.{AreSameDisks}
 use Rattle.proof_requests.specs.proof_packed_servers.Servers.{PackedDisk, PackedServer}
 use Rattle.proof_requests.specs.raft_packed_server.declared.batch.Batch.{Batch}
 use Rattle.proof_requests.specs.raft_packed_server.declared.serving.Serving.{Serving}
 use Rattle.proof_requests.specs.raft_packed_server.Laws.{IsAtEnd, IsCut}
-use Rattle.proof_requests.specs.raft_packed_server.Logs.{first_records, logged_by}
+use Rattle.proof_requests.specs.raft_packed_server.Logs.{logged_by}
 use Rattle.proof_requests.specs.raft_packed_server.Represents.{Stands}
 use Rattle.proof_requests.specs.raft_packed_server.Views.{ServerView}
 use Rattle.proof_requests.specs.raft_core.Views.{CoreView}
@@ -21,9 +21,9 @@ use Rattle.raft_cluster.specs.declared.machine.Handed.{Handed}
 use Rattle.raft_cluster.specs.declared.machine.Machine.{Machine}
 use Rattle.raft_cluster.specs.Disks.{bytes_of}
 
--- the records of a log, batch by batch
+-- the records of a log, as it names them, batch by batch
 abbrev pub Batches : Type 0 → Type 0
-Batches S = List (List (PackedRecord (Packed S)))
+Batches S = List (List (NamedRecord S))
 
 module _ {S : Type 0} where
   -- whose log is on a machine's disk
@@ -36,49 +36,51 @@ module _ {S : Type 0} where
 
 module _ {S : Type 0} (codec : Codec S) where
   -- while a frame is on its way, the server goes on behind it
-  pub record GoesOnBehind (log : LogId) (s : PackedServer S) (batches : Batches S) (k : ℕ) (disk : List ℕ) (w : Handed) (v : Serving S)
+  pub record GoesOnBehind (log : LogId) (batches : Batches S) (next : List (NamedRecord S)) (k : ℕ) (disk : List ℕ) (w : Handed) (v : Serving S)
       : Type 0 where
     pub batch : Batch S
     pub is : v.written ≡ Some batch
     pub steps : batch.steps ≡ k
     pub end : batch.end ≡ w.end
-    pub at_end : IsAtEnd codec log (batches ++ one_batch (first_records k s.waiting)) (disk ++ w.bytes) v
+    pub at_end : IsAtEnd codec log (batches ++ one_batch next) (disk ++ w.bytes) v
 
   -- else it goes on behind what is on disk
   pub record GoesOnIdle (log : LogId) (batches : Batches S) (disk : List ℕ) (v : Serving S) : Type 0 where
     pub idle : v.written ≡ None
     pub at_end : IsAtEnd codec log batches disk v
 
-  abbrev pub GoesOn : LogId → PackedServer S → Batches S → ℕ → List ℕ → Option Handed → Serving S → Type 0
-  GoesOn log s batches k disk None v = GoesOnIdle log batches disk v
-  GoesOn log s batches k disk (Some w) v = GoesOnBehind log s batches k disk w v
-
-  -- while it serves, it stands for the model's server
-  abbrev pub Serves : LogId → PackedServer S → Batches S → ℕ → List ℕ → Option Handed → Option (Serving S) → Type 0
-  Serves log s batches k disk written None = Unit {0}
-  Serves log s batches k disk written (Some v) = Stands s v × GoesOn log s batches k disk written v
-
-  -- a machine whose server isn't open writes nothing
-  abbrev pub Runs : Given → LogId → PackedServer S → Batches S → ℕ → List ℕ → Option Handed → Option (ServerView S) → Type 0
-  Runs given log s batches k disk written None = written ≡ None
-  Runs given log s batches k disk written (Some server) = (server.given ≡ given) × Serves log s batches k disk written server.serving
+  abbrev pub GoesOn : LogId → Batches S → List (NamedRecord S) → ℕ → List ℕ → Option Handed → Serving S → Type 0
+  GoesOn log batches next k disk None v = GoesOnIdle log batches disk v
+  GoesOn log batches next k disk (Some w) v = GoesOnBehind log batches next k disk w v
 
 module _ {S : Type 0} (app : Application S) (codec : Codec S) where
+  -- while it serves, it stands for the model's server
+  abbrev pub Serves : LogId → PackedServer S → Batches S → List (NamedRecord S) → ℕ → List ℕ → Option Handed → Option (Serving S) → Type 0
+  Serves log s batches next k disk written None = Unit {0}
+  Serves log s batches next k disk written (Some v) = Stands app s v × GoesOn codec log batches next k disk written v
+
+  -- a machine whose server isn't open writes nothing
+  abbrev pub Runs : Given → LogId → PackedServer S → Batches S → List (NamedRecord S) → ℕ → List ℕ → Option Handed → Option (ServerView S) → Type 0
+  Runs given log s batches next k disk written None = written ≡ None
+  Runs given log s batches next k disk written (Some server) = (server.given ≡ given) × Serves log s batches next k disk written server.serving
+
   -- What is on disk, with what is on its way there, is the front of the log's file: of its batches, and of the one that is being
-  -- written, of what the k oldest waiting steps leave. The others are on disk, and the model's disk is what they make.
-  pub record IsStored (log : LogId) (s : PackedServer S) (batches : Batches S) (k : ℕ) (disk way : List ℕ) : Type 0 where
+  -- written, whose records stand for what the k oldest waiting steps leave. The others are on disk, and the model's disk is what they make.
+  pub record IsStored (log : LogId) (s : PackedServer S) (batches : Batches S) (next : List (NamedRecord S)) (k : ℕ) (disk way : List ℕ)
+      : Type 0 where
     pub within : k ≤ length s.waiting
-    pub cut : IsCut app codec log k s batches (length disk)
+    pub cut : IsCut app codec log k s batches next (length disk)
     pub rest : List ℕ
-    pub front : file_of (logged_by codec) log (batches ++ one_batch (first_records k s.waiting)) ≡ (disk ++ way) ++ rest
+    pub front : file_of (logged_by codec) log (batches ++ one_batch next) ≡ (disk ++ way) ++ rest
 
   -- A machine has this server: what is on disk makes the server's disk, and what runs stands for it. (While the machine's server isn't
   -- open or has stopped, this one has not crashed yet: the model crashes and starts it in one.)
   pub record HasServer (given : Given) (s : PackedServer S) (m : Machine S) : Type 0 where
     pub batches : Batches S
+    pub next : List (NamedRecord S)
     pub k : ℕ
-    pub stored : IsStored (log_on m) s batches k m.disk.items (bytes_of m.written)
-    pub runs : Runs codec given (log_on m) s batches k m.disk.items m.written (server_in m.core)
+    pub stored : IsStored (log_on m) s batches next k m.disk.items (bytes_of m.written)
+    pub runs : Runs given (log_on m) s batches next k m.disk.items m.written (server_in m.core)
     pub named : IfSome m.core (λ c. c.id ≡ m.id)
 
   -- A machine stands for a server of the model: it has that server, but for what no start reads on disk. (A new log has a checkpoint in

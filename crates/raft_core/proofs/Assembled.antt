@@ -37,13 +37,13 @@ module _ {S : Type 0} (app : Application S) (c : Codec S) where
       → j ≡ mid → new ≡ record j { server = s } → mid ≡ record old { server = mid.server; requests = mid.requests; reads = mid.reads }
       → Loses old.requests [] kept lost → RefusesReads old.reads [] reads refused → Asks app old.clock old.id old.server reads asked mid.reads
       → Proposes app old.clock asked kept lost mid.server mid.requests replies
-      → HandsOut c j.server.serving written s.serving → s.given ≡ j.server.given → ((m : PackedServer S) → Represents m j.server → Represents m s)
+      → HandsOut c j.server.serving written s.serving → s.given ≡ j.server.given → ((m : PackedServer S) → Represents app m j.server → Represents app m s)
       → out ≡ replies_out replies ++ (reads_out refused ++ appended written) → WritesNow app c old out new
   writes_now old mid j new out s asked kept reads lost refused replies written same becomes made loses refuses asks proposes hands given
       stays leaves =
       subst (λ (v : CoreView S). WritesNow app c old out v) (sym becomes)
       (subst (λ (v : CoreView S). HandsOut c v.server.serving written s.serving → s.given ≡ v.server.given
-      → ((m : PackedServer S) → Represents m v.server → Represents m s)
+      → ((m : PackedServer S) → Represents app m v.server → Represents app m s)
       → WritesNow app c old out (record v { server = s })) (sym same)
       (λ h g t. record {
         kept = kept;

@@ -264,7 +264,7 @@ module _ {S : Type 0} (app : Application S) (c : Codec S) where
     pub proposes : Proposes app old.clock asked kept lost server new.requests replies
     pub hands_out : HandsOut c server.serving written new.server.serving
     pub given : new.server.given ≡ server.given
-    pub stays : (s : PackedServer S) → Represents s server → Represents s new.server
+    pub stays : (s : PackedServer S) → Represents app s server → Represents app s new.server
     pub rest : new ≡ record old { server = new.server; requests = new.requests; reads = new.reads }
     pub leaves : out ≡ replies_out replies ++ (reads_out refused ++ appended written)
 

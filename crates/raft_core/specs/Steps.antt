@@ -1,6 +1,5 @@
 -- Steps that a call takes at its server.
 use Rattle.std.specs.Prelude.{ℕ, ◌≡◌, List, [], ◌∷◌, Ok, Option, map}
-use Rattle.std.specs.Option.{option_map}
 use Rattle.raft_calls.specs.declared.elections.Candidates.TheVariants.{AllMembers}
 use Rattle.raft_node.specs.declared.act.Act.{Act}
 use Rattle.raft_node.specs.declared.act.Act.TheVariants as acts
@@ -12,7 +11,7 @@ use Rattle.raft_packed_server.specs.proof_packed_servers.Servers.{PackedServer, 
 use Rattle.raft_packed_server.specs.declared.error.ServerError.{ServerError}
 use Rattle.raft_packed_server.specs.Represents.{Represents, Takes}
 use Rattle.raft_packed_server.specs.declared.serving.Serving.{Serving}
-use Rattle.raft_packed_server.specs.Views.{ServerView, with_taken}
+use Rattle.raft_packed_server.specs.Views.{IsWithTaken, ServerView}
 use Rattle.raft_core.specs.declared.moves.Move.{Move}
 use Rattle.raft_core.specs.declared.moves.Move.TheVariants.{Beat, ChangeLearners, ChangeVoters, Fail, FinishSnapshot, Stand, StepDown}
 
@@ -44,16 +43,16 @@ module _ {S : Type 0} (app : Application S) where
   with_steps given [] s = s
   with_steps given (step ∷ steps) s = with_steps given steps (packed_with_step app given step s)
 
-  -- what a server has after steps, in order
-  abbrev pub with_all_taken : Given → List (PackedStep S) → Option (Serving S) → Option (Serving S)
-  with_all_taken given [] v = v
-  with_all_taken given (step ∷ steps) v = with_all_taken given steps (option_map (with_taken app given step) v)
+  -- what a server has after steps, in order: each one's record as its log names it
+  abbrev pub IsWithAllTaken : Given → List (PackedStep S) → Option (Serving S) → Option (Serving S) → Type 0
+  IsWithAllTaken given [] old new = new ≡ old
+  IsWithAllTaken given (step ∷ steps) old new = (mid : Option (Serving S)) × (IsWithTaken app given step old mid × IsWithAllTaken given steps mid new)
 
   -- These steps are taken, in order, and nothing else is done: whichever server of the model it stood for, it stands for that after the steps.
   pub record TakesSteps (todo : List (PackedStep S)) (old new : ServerView S) : Type 0 where
     pub given : new.given ≡ old.given
-    pub taken : new.serving ≡ with_all_taken old.given todo old.serving
-    pub steps : (s : PackedServer S) → Represents s old → Represents (with_steps old.given todo s) new
+    pub taken : IsWithAllTaken old.given todo old.serving new.serving
+    pub steps : (s : PackedServer S) → Represents app s old → Represents app (with_steps old.given todo s) new
 
   -- these acts are taken as steps, at this moment
   abbrev pub TakesActs : ℕ → List Act → ServerView S → ServerView S → Type 0
@@ -62,7 +61,7 @@ module _ {S : Type 0} (app : Application S) where
   -- one step, with its outcome
   pub record TakesStep (todo : PackedStep S) (old : ServerView S) (outcome : Outcome) (new : ServerView S) : Type 0 where
     pub given : new.given ≡ old.given
-    pub taken : new.serving ≡ option_map (with_taken app old.given todo) old.serving
+    pub taken : IsWithTaken app old.given todo old.serving new.serving
     pub step : Takes app {E = ServerError} todo old (Ok outcome) new
 
   -- one act, with its outcome
