@@ -17,7 +17,7 @@ use std::time::{Duration, Instant};
 
 /// How often a node looks at the clock.
 const TICK: Duration = Duration::from_millis(10);
-/// Up to how many bytes that come at a time it flushes by itself.
+/// Below how many bytes for the log the thread that runs it flushes them itself.
 const CALM: usize = 4 << 10;
 /// How many bytes of a client are handed in at a time, so that no client holds up the others for long.
 const PIECE: usize = 64 << 10;
@@ -320,16 +320,19 @@ impl<N: Network> Runner<N> {
     fn take_turn(&mut self, mail: &mut Mail) -> Result<ControlFlow<()>, Error> {
         if let Some(flush) = mail.flush.take() {
             self.flushed(flush)?;
+            if !mail.arrivals.is_empty() {
+                // who is answered needn't wait until what has come since is handled
+                self.deliver();
+            }
         }
         // first, since what a request expires by counts from the time that was told last, however long ago
         self.tick()?;
-        let is_calm = mail.arrivals.byte_count() < CALM;
         for (arrival, bytes) in mail.arrivals.iter() {
             self.arrives(arrival, bytes)?;
         }
         mail.arrivals.clear();
         self.hand_in_rests()?;
-        self.write(is_calm)?;
+        self.write()?;
         self.hurry()?;
         for request in mail.requests.drain(..) {
             if matches!(request, Request::Stop) {
@@ -351,16 +354,15 @@ impl<N: Network> Runner<N> {
         }
     }
 
-    /// Lets the service write, unless bytes are on their way already. While little comes, this thread flushes them itself, since that
-    /// is sooner done than said to another one; else what comes meanwhile is handled, as it is while a new log is written.
-    fn write(&mut self, is_calm: bool) -> Result<(), Error> {
+    /// Lets the service write, unless bytes are on their way already. A few bytes this thread flushes itself, since that is sooner done
+    /// than said to another one; else what comes meanwhile is handled, as it is while a new log is written.
+    fn write(&mut self) -> Result<(), Error> {
         while !self.is_flushing {
             self.let_out()?;
             let Some(next) = self.next_write()? else {
                 return self.let_out();
             };
-            if is_calm && next.change == Change::Append && self.inbox.is_empty() {
-                self.deliver();
+            if self.may_flush(&next) {
                 let flush = write(&self.disk, next);
                 self.flushed(flush)?;
             } else {
@@ -370,6 +372,13 @@ impl<N: Network> Runner<N> {
             }
         }
         Ok(())
+    }
+
+    /// Whether this thread flushes these bytes itself: they are few, and nothing waits for it meanwhile. What was said does: a thread that
+    /// serves sends it only once it is back.
+    fn may_flush(&self, next: &Write) -> bool {
+        let has_said = self.deliveries.iter().any(|(it, _)| !matches!(it, Delivery::Taken(..)));
+        next.change == Change::Append && next.bytes.len() < CALM && !has_said && self.inbox.is_empty()
     }
 
     /// A new log, if the one that is there is long; or else what is to be appended.

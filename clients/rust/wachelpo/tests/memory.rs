@@ -302,6 +302,82 @@ impl Clock for Hands {
     }
 }
 
+/// A disk that appends once it is let.
+struct Gated {
+    disk: MemoryDisk,
+    gate: Arc<Mutex<()>>,
+}
+
+impl Disk for Gated {
+    fn read(&mut self) -> io::Result<Vec<u8>> {
+        self.disk.read()
+    }
+
+    fn cut(&mut self, end: u64) -> io::Result<()> {
+        self.disk.cut(end)
+    }
+
+    fn append(&mut self, bytes: &[u8]) -> io::Result<()> {
+        let _open = self.gate.lock().unwrap();
+        self.disk.append(bytes)
+    }
+
+    fn replace(&mut self, bytes: &[u8]) -> io::Result<()> {
+        self.disk.replace(bytes)
+    }
+
+    fn generation(&self) -> u64 {
+        self.disk.generation()
+    }
+}
+
+#[test]
+fn what_is_said_does_not_wait_for_a_later_write() {
+    let (hands, gate) = (Hands::default(), Arc::default());
+    let disk = Gated {
+        disk: MemoryDisk::new(),
+        gate: Arc::clone(&gate),
+    };
+    let builder = Node::builder(NodeId(1)).member(NodeId(1), "");
+    let node = builder.open_at(disk, hands.clone()).unwrap();
+    let inbox = node.inbox();
+    let (clients, answers) = channel();
+    let wire = Wire {
+        from: NodeId(1),
+        wires: Wires::default(),
+        clients,
+    };
+    let running = node.start(wire).unwrap();
+    running.handle().initialize().unwrap();
+    wait_for("it leads", || {
+        hands.0 .0.fetch_add(10, Ordering::Relaxed);
+        (running.handle().status().unwrap().role == Role::Leader).then_some(())
+    });
+    // from here on its clock stands still, so that it writes nothing by itself
+    let mut arrivals = Arrivals::new();
+    for client in [1, 2] {
+        arrivals.push(Arrival::Connected(ClientId(client)), b"");
+        arrivals.push(Arrival::Received(ClientId(client)), b"SET a 0\r\n");
+    }
+    inbox.serve(&mut arrivals);
+    for client in [1, 2] {
+        let answer = answers.recv_timeout(LONG).unwrap();
+        assert_eq!(answer, (ClientId(client), b"+OK\r\n".to_vec()));
+    }
+    let shut = gate.lock().unwrap();
+    arrivals.push(Arrival::Received(ClientId(1)), b"PING\r\n");
+    arrivals.push(Arrival::Received(ClientId(2)), b"SET a 1\r\n");
+    // (it comes back, so whoever serves can send what was said)
+    inbox.serve(&mut arrivals);
+    let answer = answers.recv_timeout(LONG).unwrap();
+    assert_eq!(answer, (ClientId(1), b"+PONG\r\n".to_vec()));
+    assert!(answers.try_recv().is_err());
+    drop(shut);
+    let answer = answers.recv_timeout(LONG).unwrap();
+    assert_eq!(answer, (ClientId(2), b"+OK\r\n".to_vec()));
+    running.stop().unwrap();
+}
+
 /// A clock that stands still, and then leaps.
 struct Leaping {
     began: Instant,

@@ -209,6 +209,8 @@ pub(crate) struct Sockets {
     /// What host names were found to be.
     found: Arc<Mutex<Vec<Found>>>,
     waker: Arc<Waker>,
+    /// What other nodes sent, and what clients did, until the node has it.
+    frames: Arrivals,
     arrivals: Arrivals,
     is_congested: bool,
     /// Connections that may have something to read, and those that something is to be written to.
@@ -295,6 +297,7 @@ impl Sockets {
             links: peers.into_iter().map(|(id, address)| (id, link(address))).collect(),
             found: Arc::default(),
             waker: waker.clone(),
+            frames: Arrivals::new(),
             arrivals: Arrivals::new(),
             is_congested: false,
             ready: Vec::new(),
@@ -328,14 +331,7 @@ impl Sockets {
                 self.happens(event);
             }
             self.read_ready();
-            let waiting = self.setup.inbox.serve(&mut self.arrivals);
-            self.is_congested = waiting > CONGESTED;
-            self.take_deliveries(&mut deliveries);
-            for (delivery, bytes) in deliveries.iter() {
-                self.deliver(delivery, bytes);
-            }
-            deliveries.clear();
-            self.write_dirty();
+            self.serve(&mut deliveries);
             if self.looked.elapsed() >= LOOK {
                 self.looked = Instant::now();
                 self.look();
@@ -347,10 +343,30 @@ impl Sockets {
         self.setup.outbox.lock().unwrap_or_else(PoisonError::into_inner)
     }
 
-    fn take_deliveries(&self, into: &mut Deliveries) {
+    /// Gives the node what was read, and sends what it says to that. What other nodes sent goes first: the answers that come of it leave
+    /// before what clients have asked meanwhile, which this thread may write to the disk.
+    fn serve(&mut self, deliveries: &mut Deliveries) {
+        if !self.frames.is_empty() && !self.arrivals.is_empty() {
+            self.setup.inbox.serve(&mut self.frames);
+            self.deliver_all(deliveries, true);
+        }
+        self.frames.append(&mut self.arrivals);
+        let waiting = self.setup.inbox.serve(&mut self.frames);
+        self.is_congested = waiting > CONGESTED;
+        self.deliver_all(deliveries, false);
+    }
+
+    /// Sends what the node has said, and tells it whether this thread will look for more before it waits.
+    fn deliver_all(&mut self, deliveries: &mut Deliveries, is_awake: bool) {
         let mut outbox = self.outbox();
-        std::mem::swap(&mut outbox.deliveries, into);
-        outbox.is_awake = false;
+        std::mem::swap(&mut outbox.deliveries, deliveries);
+        outbox.is_awake = is_awake;
+        drop(outbox);
+        for (delivery, bytes) in deliveries.iter() {
+            self.deliver(delivery, bytes);
+        }
+        deliveries.clear();
+        self.write_dirty();
     }
 
     fn happens(&mut self, event: &Event) {

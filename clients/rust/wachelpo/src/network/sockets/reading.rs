@@ -90,7 +90,7 @@ impl Sockets {
                         .ok_or_else(|| Close(Some("a frame has no position".into())))?;
                     let known = self.logs.entry(from).or_default();
                     *known = Position::of_bytes(log).max(*known);
-                    self.arrivals.push(Arrival::Frame(from), frame);
+                    self.frames.push(Arrival::Frame(from), frame);
                     self.setup.metrics.frames_received.add(1);
                     rest = behind;
                 }
