@@ -1,12 +1,13 @@
 //! The thread that has all sockets: it never waits for one of them.
 
 mod accepting;
+mod gathering;
 mod greeting;
 mod linking;
 mod reading;
 mod writing;
 
-use crate::batch::{Arrival, Arrivals, Deliveries};
+use crate::batch::{Arrival, Arrivals, Deliveries, Delivery};
 use crate::disk::{Folder, Position, Presence};
 use crate::inbox::Inbox;
 use crate::network::frames::{BadFrame, Seal};
@@ -14,6 +15,7 @@ use crate::network::handshake::{Nonce, Refusal, Secret, Sum, HELLO};
 use crate::network::tcp::{ConnectionLimits, Outbox};
 use crate::node::Handle;
 use crate::{ClientId, Error, Metrics, NodeId};
+use gathering::Gathering;
 use mio::event::Event;
 use mio::net::{TcpListener, TcpStream};
 use mio::{Events, Interest, Poll, Token, Waker};
@@ -212,6 +214,7 @@ pub(crate) struct Sockets {
     /// What other nodes sent, and what clients did, until the node has it.
     frames: Arrivals,
     arrivals: Arrivals,
+    gathering: Gathering,
     is_congested: bool,
     /// Connections that may have something to read, and those that something is to be written to.
     ready: Vec<usize>,
@@ -299,6 +302,7 @@ impl Sockets {
             waker: waker.clone(),
             frames: Arrivals::new(),
             arrivals: Arrivals::new(),
+            gathering: Gathering::default(),
             is_congested: false,
             ready: Vec::new(),
             dirty: Vec::new(),
@@ -313,7 +317,8 @@ impl Sockets {
         let mut events = Events::with_capacity(1024);
         let mut deliveries = Deliveries::new();
         loop {
-            let is_behind = !self.ready.is_empty() && !self.is_congested;
+            let has_ready = !self.ready.is_empty() && !self.is_congested;
+            let is_behind = has_ready || !self.arrivals.is_empty();
             let patience = match (is_behind, self.is_congested) {
                 (true, _) => Duration::ZERO,
                 (false, true) => Duration::from_millis(1),
@@ -344,11 +349,16 @@ impl Sockets {
     }
 
     /// Gives the node what was read, and sends what it says to that. What other nodes sent goes first: the answers that come of it leave
-    /// before what clients have asked meanwhile, which this thread may write to the disk.
+    /// before what clients have asked meanwhile, which this thread may write to the disk, and which may wait for what others ask.
     fn serve(&mut self, deliveries: &mut Deliveries) {
-        if !self.frames.is_empty() && !self.arrivals.is_empty() {
+        if !self.arrivals.is_empty() {
             self.setup.inbox.serve(&mut self.frames);
             self.deliver_all(deliveries, true);
+            let (count, bytes) = (self.arrivals.len(), self.arrivals.byte_count());
+            if self.gathering.waits(count, bytes, Instant::now()) {
+                return;
+            }
+            self.gathering.end();
         }
         self.frames.append(&mut self.arrivals);
         let waiting = self.setup.inbox.serve(&mut self.frames);
@@ -362,11 +372,16 @@ impl Sockets {
         std::mem::swap(&mut outbox.deliveries, deliveries);
         outbox.is_awake = is_awake;
         drop(outbox);
+        let mut answered = 0;
         for (delivery, bytes) in deliveries.iter() {
+            answered += usize::from(matches!(delivery, Delivery::Bytes(_)));
             self.deliver(delivery, bytes);
         }
         deliveries.clear();
         self.write_dirty();
+        if answered > 0 {
+            self.gathering.answered(answered, Instant::now());
+        }
     }
 
     fn happens(&mut self, event: &Event) {
