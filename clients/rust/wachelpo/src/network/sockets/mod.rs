@@ -38,6 +38,8 @@ const LOOK: Duration = Duration::from_millis(20);
 /// How many bytes are read at a time, and of one connection in a round.
 const CHUNK: usize = 64 << 10;
 const SHARE: usize = 1 << 20;
+/// To how many connections is written until others are read again: whoever is answered first asks on while the others are answered.
+const WRITTEN: usize = 32;
 /// Above so many bytes that wait for the node, no socket is read.
 const CONGESTED: usize = 64 << 20;
 /// How long a handshake may take, and a request for a page.
@@ -318,7 +320,7 @@ impl Sockets {
         let mut deliveries = Deliveries::new();
         loop {
             let has_ready = !self.ready.is_empty() && !self.is_congested;
-            let is_behind = has_ready || !self.arrivals.is_empty();
+            let is_behind = has_ready || !self.arrivals.is_empty() || !self.dirty.is_empty();
             let patience = match (is_behind, self.is_congested) {
                 (true, _) => Duration::ZERO,
                 (false, true) => Duration::from_millis(1),
@@ -378,7 +380,7 @@ impl Sockets {
             self.deliver(delivery, bytes);
         }
         deliveries.clear();
-        self.write_dirty();
+        self.write_dirty(WRITTEN);
         if answered > 0 {
             self.gathering.answered(answered, Instant::now());
         }
@@ -429,7 +431,11 @@ impl Sockets {
         if let Some(socket) = &mut self.slots[slot] {
             if !socket.is_dirty && (socket.written < socket.output.len() || socket.is_closing) {
                 socket.is_dirty = true;
-                self.dirty.push(slot);
+                match socket.role {
+                    // who is answered next waits for other nodes
+                    Role::Link { .. } => self.dirty.insert(0, slot),
+                    _ => self.dirty.push(slot),
+                }
             }
         }
     }

@@ -94,7 +94,7 @@ impl Sockets {
         self.count_unwritten(waiting, waiting + bytes.len());
         if self.unwritten > self.setup.limits.all_client_bytes {
             // of a batch nothing may be written yet
-            self.write_dirty();
+            self.write_dirty(usize::MAX);
         }
         if self.unwritten > self.setup.limits.all_client_bytes {
             self.close_greediest();
@@ -131,8 +131,11 @@ impl Sockets {
         }
     }
 
-    pub(super) fn write_dirty(&mut self) {
-        for slot in std::mem::take(&mut self.dirty) {
+    /// Writes to so many connections at most: to other nodes first, then in the order in which there was something for them.
+    pub(super) fn write_dirty(&mut self, most: usize) {
+        let count = self.dirty.len().min(most);
+        let now: Vec<usize> = self.dirty.drain(..count).collect();
+        for slot in now {
             let Some(socket) = &mut self.slots[slot] else { continue };
             socket.is_dirty = false;
             let was_full = !socket.may_read(&self.setup.limits);
