@@ -104,8 +104,8 @@ impl Builder {
                 "# Server\r\nserver:wachelpo\r\nwachelpo_version:{}\r\nredis_mode:standalone\r\n",
                 env!("CARGO_PKG_VERSION")
             ),
-            snapshot_entries: 10_000,
-            kept_entries: 1_000,
+            snapshot_entries: 500,
+            kept_entries: 10_000,
             log_bytes: LOG_BYTES,
             limits: Limits::default(),
         }
@@ -153,14 +153,15 @@ impl Builder {
         self
     }
 
-    /// After how many entries that were executed since the last snapshot the next one is made; 0: never. By default 10,000. It is written
-    /// to the log once as many bytes came behind the last one as that has. All nodes of a cluster have the same.
+    /// After how many entries that were executed since the last snapshot the next one is made; 0: never. By default 500: the entries'
+    /// effects are added to it at once, and all clients wait meanwhile. It is written to the log once as many bytes came behind the last one
+    /// as that has. All nodes of a cluster have the same.
     pub fn snapshot_entries(mut self, count: u64) -> Self {
         self.snapshot_entries = count;
         self
     }
 
-    /// How many entries that a snapshot has are kept, for nodes that lack few: one that lacks more is sent the snapshot. By default 1,000.
+    /// How many entries that a snapshot has are kept, for nodes that lack few: one that lacks more is sent the snapshot. By default 10,000.
     /// All nodes of a cluster have the same.
     pub fn kept_entries(mut self, count: u64) -> Self {
         self.kept_entries = count;
