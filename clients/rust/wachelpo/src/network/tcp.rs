@@ -120,8 +120,8 @@ impl TcpBuilder {
         Err(Error::Settings(text.into()))
     }
 
-    /// Binds the addresses, and moves bytes between sockets and the node, on one thread: while little comes it runs the node, too, so that
-    /// no thread waits for another one.
+    /// Binds the addresses, and moves bytes between sockets and the node, on one thread: while little comes, and it has nothing else to do, it
+    /// runs the node, too, so that no thread waits for another one.
     ///
     /// Refusals:
     /// - [`Error::Settings`]: an address that isn't a loopback one wants a secret, and that for clients a password.

@@ -39,7 +39,7 @@ const LOOK: Duration = Duration::from_millis(20);
 const CHUNK: usize = 64 << 10;
 const SHARE: usize = 1 << 20;
 /// To how many connections is written until others are read again: whoever is answered first asks on while the others are answered.
-const WRITTEN: usize = 32;
+const WRITTEN: usize = 8;
 /// Above so many bytes that wait for the node, no socket is read.
 const CONGESTED: usize = 64 << 20;
 /// How long a handshake may take, and a request for a page.
@@ -354,7 +354,7 @@ impl Sockets {
     /// before what clients have asked meanwhile, which this thread may write to the disk, and which may wait for what others ask.
     fn serve(&mut self, deliveries: &mut Deliveries) {
         if !self.arrivals.is_empty() {
-            self.setup.inbox.serve(&mut self.frames);
+            self.hand_in();
             self.deliver_all(deliveries, true);
             let (count, bytes) = (self.arrivals.len(), self.arrivals.byte_count());
             if self.gathering.waits(count, bytes, Instant::now()) {
@@ -363,9 +363,18 @@ impl Sockets {
             self.gathering.end();
         }
         self.frames.append(&mut self.arrivals);
-        let waiting = self.setup.inbox.serve(&mut self.frames);
+        let waiting = self.hand_in();
         self.is_congested = waiting > CONGESTED;
         self.deliver_all(deliveries, false);
+    }
+
+    /// Hands in what waits in `frames`, and says how many bytes wait for the node. This thread runs the node only if it has nothing else to do.
+    fn hand_in(&mut self) -> usize {
+        if self.dirty.is_empty() && self.ready.is_empty() {
+            self.setup.inbox.serve(&mut self.frames)
+        } else {
+            self.setup.inbox.post(&mut self.frames)
+        }
     }
 
     /// Sends what the node has said, and tells it whether this thread will look for more before it waits.
