@@ -32,8 +32,8 @@ usage: wachelpo serve --id ID --data DIR --listen HOST:PORT [--peer ID=HOST:PORT
   --password FILE   what clients must say by AUTH: without it clients are only listened for on a loopback address
   --election-timeout MS  how long a node hears nothing of a leader before it asks for votes (by default 1000)
   --client-timeout S     how long a client may be silent (by default for ever)
-  --snapshot-entries N   after how many entries the next snapshot is made, the same at each node; 0: never (by default 10000)
-  --kept-entries N       how many entries of a snapshot are kept for nodes that lack few, the same at each node (by default 1000)
+  --snapshot-entries N   after how many entries the next snapshot is made, the same at each node; 0: never (by default 500)
+  --kept-entries N       how many entries of a snapshot are kept for nodes that lack few, the same at each node (by default 10000)
   --log-bytes N          after how many bytes the log is replaced by one that begins with the last snapshot (by default 67108864)
   --config FILE     a file in TOML with the same: id, data, listen, peers (a list of strings), voters, cluster, metrics, secret, password,
                     election_timeout, client_timeout, snapshot_entries, kept_entries, log_bytes
