@@ -2,7 +2,7 @@
 use Rattle.std.specs.Prelude.{ℕ, ◌+◌, ◌-◌, ◌/◌, ◌^◌, Bool, true, false, not, is_some, List, [], ◌∷◌, ◌++◌, length, map, count_by, Option, Some, None, Result, Ok, Err, option_map, unwrap_or, nat_lt, pos, negsuc, ℤ, ◌+ℤ◌, if◌then◌else◌}
 use Rattle.std.specs.Fmt.{signed_decimal}
 use Rattle.std.specs.Str.{bytes_eq}
-use Rattle.std.specs.Option.{option_eq}
+use Rattle.std.specs.Option.{option_eq, option_and_then}
 use Rattle.std.specs.FinMap as keys
 use Rattle.raft_machine.specs.declared.stored.Stored.{Stored}
 use Rattle.raft_machine.specs.declared.command.Query.{Query}
@@ -80,10 +80,18 @@ told Status done old = if done then Done else Null
 told Old done old = bulk old
 told Flag done old = flag done
 
+-- when a key expires that is set, and what is told of it, if this was stored there
+abbrev pub expires_with : SetOptions → Option Stored → Option ℕ
+expires_with options old = expires_at options.expiry (option_and_then (λ s. s.expires) old)
+
+abbrev pub told_with : SetOptions → Bool → Option Stored → Reply
+told_with options done old = told options.reply done (option_map (λ s. s.bytes) old)
+
 unfoldable pub set : Space → List ℕ → List ℕ → SetOptions → Space × Reply
 set s k v options =
     let done = meets options.condition (keys.contains_key s.map k) in
-    (if done then put s k (stored v (expires_at options.expiry (deadline_of s.map k))) else s, told options.reply done (value_of s.map k))
+    let old = keys.get s.map k in
+    (if done then put s k (stored v (expires_with options old)) else s, told_with options done old)
 
 -- SET with no options
 abbrev pub plainly : SetOptions

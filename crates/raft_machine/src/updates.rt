@@ -2,9 +2,9 @@
 
 ghost use Rattle.std.specs.Prelude.{◌≡◌, ◌+◌, [], ℕ, Bool, List, OnOk, IfOk, is_some, nat_lt, unwrap_or};
 ghost use Rattle.std.specs.Option.{option_eq, option_copied, option_map, option_and_then};
-ghost use Rattle.std.specs.FinMap.{contains_key};
+ghost use Rattle.std.specs.FinMap.{contains_key, get};
 ghost use Rattle.std.specs.Str.{bytes_eq};
-ghost use Rattle.raft_machine.specs.Commands.{value_of, told, counted, flag, meets, expires_at, allows, expiring, longest};
+ghost use Rattle.raft_machine.specs.Commands.{value_of, told, counted, flag, meets, expires_at, expires_with, told_with, allows, expiring, longest};
 ghost use Rattle.raft_machine.specs.Commands.{set, set_all, compare_and_set, append, increment, delete, take, expire, persist, run, run_all};
 ghost use Rattle.raft_machine.specs.Space.{Space, deadline_of, without};
 
@@ -25,8 +25,8 @@ const LONGEST: usize = 512 * 1024 * 1024;
 /// What is stored at a key, if setting it with these options asks for that. Otherwise nothing is looked up.
 fn asked<'a>(keyspace: &'a Keyspace, key: &Key, options: SetOptions) -> Option<&'a Stored>
     ensures condition { meets options.condition (is_some result) ≡ meets options.condition (contains_key keyspace.now.map key.now) }
-    ensures expiry { expires_at options.expiry (option_and_then (λ s. s.expires) (option_copied result)) ≡ expires_at options.expiry (deadline_of keyspace.now.map key.now) }
-    ensures reply { (done : Bool) → told options.reply done (option_map (λ s. s.bytes) (option_copied result)) ≡ told options.reply done (value_of keyspace.now.map key.now) }
+    ensures expiry { expires_with options (option_copied result) ≡ expires_with options (get keyspace.now.map key.now) }
+    ensures reply { (done : Bool) → told_with options done (option_copied result) ≡ told_with options done (get keyspace.now.map key.now) }
 {
     match options {
         SetOptions {

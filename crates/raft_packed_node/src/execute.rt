@@ -137,7 +137,8 @@ fn replicate<M: Machine>(
 ) -> Result<(), AllocError>
     ensures { OnOk result (records.new ≡ record records.old {
       bag = records.old.bag
-          ++ packed_to_each M.application turn.now.id (target ∷ []) (packed_replication M.application turn.now session_id.now store.now.store req.now);
+          ++ packed_to_each M.application turn.now.id (target ∷ [])
+          (packed_replication M.application turn.now session_id.now store.now.store req.now);
     }) }
 {
     let (body, snapshot) = replication(turn, session_id, store, req)?;

@@ -23,9 +23,13 @@ AreInOrder from [] = Unit {0}
 AreInOrder from (x ∷ log) = (from ≤ x.0) × ((x.1.log_id.index ≡ x.0) × AreInOrder (x.0 + 1) log)
 
 module _ {S : Type 0} where
+  -- that the log is purged, if it is
+  abbrev pub purge_of : PackedStore S → List (PackedChange (Packed S))
+  purge_of t = map (λ x. Purge x) (option_to_list t.front)
+
   -- the vote, the snapshot, the last purged id, if there is one, and the entries
   abbrev pub checkpoint_changes : PackedStore S → List (PackedChange (Packed S))
-  checkpoint_changes t = Vote t.vote ∷ Install t.meta t.snap ∷ (map (λ x. Purge x) (option_to_list t.front) ++ Append (values_of t.log) ∷ [])
+  checkpoint_changes t = Vote t.vote ∷ Install t.meta t.snap ∷ (purge_of t ++ Append (values_of t.log) ∷ [])
 
   -- of a store, while moments are reserved up to this one
   abbrev pub checkpoint : ℕ → PackedStore S → PackedRecord (Packed S)

@@ -1,12 +1,11 @@
 //! A checkpoint of a store, as bytes.
 
-ghost use Rattle.std.specs.Prelude.{◌≡◌, is_some, map, if◌then◌else◌};
+ghost use Rattle.std.specs.Prelude.{◌≡◌, is_some, if◌then◌else◌};
 ghost use Rattle.std.specs.Map.{values_of};
-ghost use Rattle.std.specs.Option.{option_to_list};
 ghost use Rattle.raft_store.specs.Starting.{entries_of};
 ghost use Rattle.raft_codec.specs.Codec.{Writes, list};
 ghost use Rattle.raft_wire.specs.Entries.{entry};
-ghost use Rattle.raft_packed_wire.specs.Checkpoints.{checkpoint_changes, named_checkpoint};
+ghost use Rattle.raft_packed_wire.specs.Checkpoints.{checkpoint_changes, named_checkpoint, purge_of};
 ghost use Rattle.raft_packed_wire.specs.Records.{WritesPackedChanges, named_logged, packed_change};
 ghost use Rattle.raft_packed_wire.specs.Values.{kept};
 ghost use Rattle.raft_packed_wire.specs.declared.record.PackedChange.TheVariants as made;
@@ -46,7 +45,7 @@ fn write_snapshot<M: Machine>(out: &mut Vec<u8>, store: &PackedStore<M>) -> Resu
 
 /// Appends that the log is purged, if it is.
 fn write_purge<M: Machine>(out: &mut Vec<u8>, store: &PackedStore<M>) -> Result<(), AllocError>
-    ensures { WritesPackedChanges (kept M.codec) (map (λ x. made.Purge x) (option_to_list store.now.store.front)) result out.old.items out.new.items }
+    ensures { WritesPackedChanges (kept M.codec) (purge_of store.now.store) result out.old.items out.new.items }
 {
     match store.front() {
         Some(upto) => PackedChange::<Packed<M>>::Purge(upto).write(out),
