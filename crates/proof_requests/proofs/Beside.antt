@@ -30,19 +30,21 @@ use Rattle.proof_requests.specs.Answered.{IsAnswered, IsTrue}
 use Rattle.proof_requests.specs.Clients.{AnswerFirst, AreBeside, AreOver, AreTwoRequests, Cores, Exchange, IsOpen, IsOver, WasTold, StaysByReading, StaysByStart, WasWritten, after_call, after_end, after_read, after_request, answered_with, no_cores, unanswered, with_one}
 use Rattle.proof_requests.specs.Frames.{IsSent, frames_of}
 use Rattle.proof_requests.specs.Laws.{IsOwnAction, Keeps}
+use Rattle.proof_requests.specs.Moving.{IsComing, IsGoing, IsMoving}
 use Rattle.proof_requests.specs.Reading.{StartsBare}
 use Rattle.proof_requests.specs.ReadLaws.{IsReadAnswered, IsReadTrue, IsReader, KeepsReads}
 use Rattle.proof_requests.specs.Requests.{ArePlaced, Asked, IsCore, Placed, Rises, Wrote, server_after}
 use Rattle.proof_requests.proofs.Calls.{admits, opens}
 use Rattle.proof_requests.proofs.Kept.{NoCrash, all_awaited_on, all_waiting_on}
-use Rattle.proof_requests.proofs.Left.{bag_more, entries_more}
+use Rattle.proof_requests.proofs.Left.{entries_more}
 use Rattle.proof_requests.proofs.Lists.{all_append, all_in, none_in, rises_more, slot_none}
 use Rattle.proof_requests.proofs.More.{executes_more, fails_more}
 use Rattle.proof_requests.proofs.Others.{Concerns, bare_other, bare_start, concerns_own, no_crash_of, reader_other, reader_start, server_still}
 use Rattle.proof_requests.proofs.Queues.{FirstAnswered, answered_once, end_was, ends_rise, more_still, none_own, one_other, one_own, open_or_ended, open_or_over, over_below, over_once, own_left, queues_rise, still_open, tells_of, tokens_first, unanswered_in, unanswered_once, was_open, was_or_one}
 use Rattle.proof_requests.proofs.Reading.{done_more}
 use Rattle.proof_requests.proofs.ReadsKept.{admits_read}
-use Rattle.proof_requests.proofs.Sent.{sent_on}
+use Rattle.proof_requests.proofs.MovedCalls.{each_core, moving_later, moving_same, with_core}
+use Rattle.proof_requests.proofs.Sent.{still_sent}
 
 pub some_same : {A : Type 0} (a b : A) → ◌≡◌ {A = Option A} (Some a) (Some b) → a ≡ b
 some_same a b e = cc
@@ -193,16 +195,6 @@ value_below app codec given actions placed s h w i n c e =
     omega (arith, l, u, q))
     z.there
 
--- what was sent stays so
-still_sent : {S : Type 0} (app : Application S) (codec : Codec S) (given : Given) (actions took : List Action) (fs : List (List ℕ))
-    → AllByRecursion (IsSent app codec (after_actions given actions (new_cluster given)).released.bag) fs
-    → AllByRecursion (IsSent app codec (after_actions given (actions ++ took) (new_cluster given)).released.bag) fs
-still_sent app codec given actions took fs a =
-    each_of (IsSent app codec (after_actions given actions (new_cluster given)).released.bag)
-    (IsSent app codec (after_actions given (actions ++ took) (new_cluster given)).released.bag)
-    (λ bytes z. sent_on app codec (after_actions given actions (new_cluster given)).released.bag
-    (after_actions given (actions ++ took) (new_cluster given)).released.bag (λ m c. bag_more given actions took m c) bytes z) fs a
-
 -- no requests, and no actions
 pub beside_first : {S : Type 0} (app : Application S) (codec : Codec S) (given : Given) → AreBeside app codec given [] [] no_cores
 beside_first app codec given = record {
@@ -220,12 +212,14 @@ beside_first app codec given = record {
   over = tt;
   once = tt;
   frames = tt;
+  moving = λ id v e. cc;
 }
 
 -- a call
 module _ {S : Type 0} (app : Application S) (codec : Codec S) (given : Given) (actions : List Action) (placed : List Placed)
     (s : Cores S) (h : AreBeside app codec given actions placed s) (id : ℕ) (new : CoreView S) (out : List (Output S)) (took : List Action)
-    (k : Keeps app codec given actions placed id (s.open_at id) out new took) (r : KeepsReads given actions id (s.reads_at id) out new took) where
+    (k : Keeps app codec given actions placed id (s.open_at id) out new took) (r : KeepsReads given actions id (s.reads_at id) out new took)
+    (moved : IsMoving app codec (after_actions given (actions ++ took) (new_cluster given)).released.bag new) where
   abbrev now : List Action
   now = actions ++ took
 
@@ -399,6 +393,8 @@ module _ {S : Type 0} (app : Application S) (codec : Codec S) (given : Given) (a
         (λ e f c d. two_by_open given actions placed s e f (element (IsOver given actions placed s) s.done e h.over c) (is_open f d));
     frames = all_append (IsSent app codec (after_actions given now (new_cluster given)).released.bag) s.sent (frames_of out)
         (still_sent app codec given actions took s.sent h.frames) k.frames;
+    moving = with_core (λ i v. IsMoving app codec (after_actions given now (new_cluster given)).released.bag v) s.cores id new moved
+        (λ i v e. moving_later app codec given actions took v (h.moving i v e));
   }
 
   -- its replies answer the first requests
@@ -519,6 +515,11 @@ module _ {S : Type 0} (app : Application S) (codec : Codec S) (given : Given) (a
         }) s.done h.over;
     once = h.once;
     frames = h.frames;
+    moving = with_core (λ i v. IsMoving app codec (after_actions given actions (new_cluster given)).released.bag v) s.cores id new
+        (moving_same app codec (after_actions given actions (new_cluster given)).released.bag old new
+        (record { outgoing = ap (λ (v : CoreView S). v.outgoing) admitted; incoming = ap (λ (v : CoreView S). v.incoming) admitted })
+        (h.moving id old runs))
+        h.moving;
   }
 
 -- a read that needs no entry
@@ -599,6 +600,11 @@ module _ {S : Type 0} (app : Application S) (codec : Codec S) (given : Given) (a
         }) s.done h.over;
     once = h.once;
     frames = h.frames;
+    moving = with_core (λ i v. IsMoving app codec (after_actions given actions (new_cluster given)).released.bag v) s.cores id new
+        (moving_same app codec (after_actions given actions (new_cluster given)).released.bag old new
+        (record { outgoing = ap (λ (v : CoreView S). v.outgoing) admitted; incoming = ap (λ (v : CoreView S). v.incoming) admitted })
+        (h.moving id old runs))
+        h.moving;
   }
 
 -- a server that ends, and starts again, or doesn't
@@ -607,7 +613,8 @@ module _ {S : Type 0} (app : Application S) (codec : Codec S) (given : Given) (a
     (own : AllByRecursion (Concerns id) took)
     (may : AllMayAct given (actions ++ took) (new_cluster given)) (placed_are : ArePlaced given (actions ++ took) (placed ++ [])) (bare : (i : ℕ) → StartsBare (actions ++ took) i) (early : told ≤ length (actions ++ took))
     (is_core : (v : CoreView S) → new ≡ Some v → IsCore app given (actions ++ took) (placed ++ []) id v [])
-    (is_reader : (v : CoreView S) → new ≡ Some v → IsReader given (actions ++ took) id v []) where
+    (is_reader : (v : CoreView S) → new ≡ Some v → IsReader given (actions ++ took) id v [])
+    (moved : (v : CoreView S) → new ≡ Some v → IsMoving app codec (after_actions given (actions ++ took) (new_cluster given)).released.bag v) where
   abbrev ended : Cores S
   ended = after_end id new told s
 
@@ -701,6 +708,8 @@ module _ {S : Type 0} (app : Application S) (codec : Codec S) (given : Given) (a
     once = over_once s.done (gone ++ gone_reads) h.once gone_once
         (λ e f c d. two_by_open given actions placed s e f (element (IsOver given actions placed s) s.done e h.over c) (gone_is f d));
     frames = still_sent app codec given actions took s.sent h.frames;
+    moving = each_core (λ i v. IsMoving app codec (after_actions given (actions ++ took) (new_cluster given)).released.bag v) s.cores id new moved
+        (λ i v e. moving_later app codec given actions took v (h.moving i v e));
   }
 
 -- a server starts, at first or after a crash
@@ -719,7 +728,12 @@ beside_reading {S} app codec given wf actions placed s h log k disk bytes o memb
     (λ v e. subst (λ ps. IsCore app given (actions ++ took) ps log.node v []) ps
     (subst (λ (v : CoreView S). IsCore app given (actions ++ took) placed log.node v []) (some_same o.core v e) z.2))
     (λ v e. subst (λ (v : CoreView S). IsReader given (actions ++ took) log.node v []) (some_same o.core v e)
-    (reader_start given actions log.node c.survive 0 o.core begins.executed begins.reads (h.bare log.node))))
+    (reader_start given actions log.node c.survive 0 o.core begins.executed begins.reads (h.bare log.node)))
+    (λ v e. subst (IsMoving app codec (after_actions given (actions ++ took) (new_cluster given)).released.bag) (some_same o.core v e)
+    (record {
+      going = subst (AllByRecursion (IsGoing app codec (after_actions given (actions ++ took) (new_cluster given)).released.bag)) (sym begins.outgoing) tt;
+      coming = subst (IsComing app codec (after_actions given (actions ++ took) (new_cluster given)).released.bag) (sym begins.incoming) (inl refl);
+    })))
 
 pub beside_start : {S : Type 0} (app : Application S) (codec : Codec S) → IsCodec codec → StaysByStart app codec
 beside_start {S} app codec inverse given wf actions placed s h log k disk batches next n o member same cut begins =
@@ -739,5 +753,6 @@ beside_stop app codec given actions placed s h id =
     (subst (ArePlaced given (actions ++ [])) (sym (append-nil placed)) (subst (λ xs. ArePlaced given xs placed) (sym (append-nil actions)) h.placed_are))
     (λ i. subst (λ xs. StartsBare xs i) (sym (append-nil actions)) (h.bare i))
     (omega (arith, n))
+    (λ v e. cc)
     (λ v e. cc)
     (λ v e. cc)))

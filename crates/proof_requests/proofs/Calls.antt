@@ -1,5 +1,5 @@
 -- Each call of a server keeps its requests beside the model, and answers truly.
-use Rattle.std.proofs.Common.{ℕ, zero, suc, ◌≡◌, List, [], ◌∷◌, ◌++◌, length, take, map, arith, refl, sym, ap, ◌∙◌, subst, append_assoc}
+use Rattle.std.proofs.Common.{ℕ, zero, suc, ◌≡◌, inl, inr, List, [], ◌∷◌, ◌++◌, length, take, map, arith, refl, sym, ap, ◌∙◌, subst, append_assoc}
 use Rattle.std.specs.Prelude.{Contains}
 use Rattle.std.specs.List.{AllByRecursion}
 use Rattle.std.proofs.lemmas.List.{append-nil}
@@ -18,30 +18,37 @@ use Rattle.raft_answers.specs.Requests.{Open}
 use Rattle.proof_packed.specs.Nodes.{PackedInstalled, PackedMessage, PackedRecords, packed_message, packed_records}
 use Rattle.proof_packed.specs.Stores.{Application, Packed}
 use Rattle.raft_core.specs.proof_packed_servers.Servers.{PackedServer, PackedStep, packed_flushed_first, server_packed}
-use Rattle.raft_core.specs.raft_packed_wire.declared.packet.SentMessage.{SentMessage}
-use Rattle.raft_core.specs.raft_packed_wire.Messages.{received as message_of}
+use Rattle.raft_core.specs.raft_packed_wire.declared.packet.PackedContent.{PackedContent}
+use Rattle.raft_core.specs.raft_packed_wire.declared.packet.PackedContent.TheVariants as content
+use Rattle.raft_core.specs.raft_packed_wire.declared.packet.PackedPacket.{PackedPacket}
+use Rattle.raft_core.specs.raft_packed_wire.Messages.{packed_packet, received as message_of}
+use Rattle.raft_core.specs.raft_packed_wire.Values.{kept}
 use Rattle.raft_core.specs.raft_packed_server.Represents.{Represents, said_by}
 use Rattle.raft_core.specs.raft_packed_server.Views.{ServerView}
 use Rattle.raft_core.specs.declared.frame.Frame.TheVariants as frames
 use Rattle.raft_core.specs.declared.moves.Move.{Move}
 use Rattle.raft_core.specs.declared.moves.Move.TheVariants.{Beat, ChangeLearners, ChangeVoters, Fail, FinishSnapshot, Stand, StepDown}
 use Rattle.raft_core.specs.declared.output.Output.{Output}
-use Rattle.raft_core.specs.Calls.{Releases, Ticks}
+use Rattle.raft_core.specs.Calls.{AnswersAfter, Releases, TakesContent, Ticks, reply_to}
 use Rattle.raft_core.specs.Frames.{asked as ask_out}
 use Rattle.raft_core.specs.Laws.{replies_of}
-use Rattle.raft_core.specs.Outputs.{Sends, executed_outputs, install, lost_left, lost_replies, overdue_left, overdue_replies, reads_out, replies_out}
-use Rattle.raft_core.specs.Outputs.{said_outputs, sent}
-use Rattle.raft_core.specs.Outputs.{settled_all}
+use Rattle.raft_core.specs.Outputs.{IsBegun, LeaveAll, executed_outputs, install, lost_left, lost_replies, overdue_left, overdue_replies, reads_out, replies_out}
+use Rattle.raft_core.specs.Outputs.{said_outputs, settled_all}
+use Rattle.raft_core.specs.Parts.{IsPartOf, Outgoing, outgoing_of}
 use Rattle.raft_core.specs.Reads.{ReadsView, failed_replies, handed_after, read_replies, refused_left, refused_replies, with_heard, with_left}
-use Rattle.raft_core.specs.Steps.{act_of, step_taking, with_steps}
+use Rattle.raft_core.specs.Steps.{TakesSteps, act_of, step_taking, with_steps}
 use Rattle.raft_core.specs.Views.{CoreView}
-use Rattle.raft_core.proofs.Told.{before, behind_read, none_asked, none_granted, none_read, replies_more}
+use Rattle.raft_core.proofs.Sending.{messages_send}
+use Rattle.raft_core.proofs.Told.{before, behind_read, none_asked, none_granted, none_read, none_sent as none_replied, none_went, replies_more}
 use Rattle.proof_servers.specs.Servers.{Action, AllMayAct, Cluster, Crashes, Flushes, MayTake, Step, Takes, after_action, after_actions, crashed}
 use Rattle.proof_servers.specs.Servers.{new_cluster}
 use Rattle.proof_servers.proofs.Follow.{changes}
-use Rattle.proof_requests.specs.Actions.{AreSteps, Initializes, flushes, initialized, received, released, taking, ticked}
+use Rattle.raft_core.proofs.proof_packed_servers_proofs.Unpacking.{unmapped}
+use Rattle.proof_snapshots.proofs.Agreed.{agreed as snapshots_agree}
+use Rattle.proof_requests.specs.Actions.{AreSteps, Initializes, carried, flushes, initialized, received, released, taking, ticked}
 use Rattle.proof_requests.specs.Answered.{AreAnswered}
-use Rattle.proof_requests.specs.Frames.{frames_of}
+use Rattle.proof_requests.specs.Frames.{IsSent, frames_of}
+use Rattle.proof_requests.specs.Moving.{IsGoing, IsMoving}
 use Rattle.proof_requests.specs.Laws.{AdmitsOne, IsOwnAction, Keeps, OpensWithNone, ReceivesSent}
 use Rattle.proof_requests.specs.Requests.{AreOpen, ArePlaced, Asked, IsCore, IsWaiting, Placed, server_after}
 use Rattle.proof_requests.proofs.Closing.{Closed, closes_executed, closes_lost, closes_none, closes_overdue}
@@ -49,8 +56,10 @@ use Rattle.proof_requests.proofs.Kept.{NoProposal, flushes_no_proposal, flushes_
 use Rattle.proof_requests.proofs.Kept.{steps_no_proposal, steps_own}
 use Rattle.proof_requests.proofs.Lists.{none_in, pairs_append, rises_more}
 use Rattle.proof_requests.proofs.More.{after_both, may_both}
+use Rattle.proof_requests.proofs.Moved.{BringAlike, part_completes}
 use Rattle.proof_requests.proofs.Packs.{acts_at, acts_packed, crash_packed, crash_stands, flushes_packed, moves_plain, said_all, said_first, stands_after}
-use Rattle.proof_requests.proofs.Sent.{AreSent, asks_sent, bag_said, granted_sent, no_read_frames, no_told_frames, none_sent, said_sent, sent_before, taken_sent}
+use Rattle.proof_requests.proofs.Sent.{AreSent, asks_sent, bag_said, granted_sent, no_read_frames, no_told_frames, none_sent}
+use Rattle.proof_requests.proofs.Sent.{part_answered, part_sent, said_sent, sent_before, still_sent, taken_sent, went_sent}
 use Rattle.proof_requests.proofs.Told.{IsTold, all_flushed, all_told, may_flush}
 
 -- what moves do: none takes a message, or proposes
@@ -86,13 +95,9 @@ moves_no at (m ∷ ms) = (move_no m, moves_no at ms)
 
 -- messages and snapshots are no replies
 module _ {S : Type 0} where
-  none_told : (c : Codec S) (start : ℕ) (xs : List (SentMessage (Packed S))) → replies_of (map (sent c start) xs) ≡ []
-  none_told c start [] = refl
-  none_told c start (x ∷ xs) = none_told c start xs
-
-  none_framed : (app : Application S) (c : Codec S) (start : ℕ) (ms : List (PackedMessage S)) (out : List (Output S)) → Sends app c start ms out
+  none_framed : (app : Application S) (c : Codec S) (start : ℕ) (ms : List (PackedMessage S)) (out : List (Output S)) → LeaveAll app c start ms out
       → replies_of out ≡ []
-  none_framed app c start ms out s = ap replies_of s.leaves ∙ none_told c start s.packets
+  none_framed app c start ms out h = none_replied out (messages_send app c start ms out h)
 
   none_installed : (xs : List (PackedInstalled S)) → replies_of (map install xs) ≡ []
   none_installed [] = refl
@@ -141,15 +146,15 @@ module _ {S : Type 0} (app : Application S) (c : Codec S) (given : Given) (wf : 
   closed_as upto rs o e q k =
       subst (λ rs. Closed given upto placed id asked rs new.requests) (sym e) (subst (Closed given upto placed id asked rs) (sym q) k)
 
-  -- steps that propose nothing
-  pub stepped : (steps : List Step) (taken : List (PackedStep S)) → AreSteps app steps taken → new.server.given ≡ old.server.given
+  -- steps that propose nothing, by which frames leave that have left a server by then
+  pub stepped_by : (steps : List Step) (taken : List (PackedStep S)) → AreSteps app steps taken → new.server.given ≡ old.server.given
       → ((s : PackedServer S) → Represents app s old.server → Represents app (with_steps app old.server.given taken s) new.server) → new.id ≡ old.id
       → AllByRecursion (λ (s : Step). MayTake bag id s.act) steps
       → AllByRecursion (λ (s : Step). NoPropose s.act) steps → (rs : List Reply) (o : Open) → replies_of out ≡ rs → new.requests ≡ o
       → (AreOpen given (actions ++ map (Takes id) steps) placed id old.requests asked
       → Closed given (actions ++ map (Takes id) steps) placed id asked rs o)
-      → ((bag : List Message) → AreSent app c bag (frames_of out)) → Kept (taking id steps)
-  stepped steps taken same given_same takes is m n rs o e q close sent_are =
+      → AreSent app c bag (frames_of out) → Kept (taking id steps)
+  stepped_by steps taken same given_same takes is m n rs o e q close sent_are =
       let took : List Action = map (Takes id) steps in
       let own : AllByRecursion (IsOwnAction id) took = steps_own given id steps in
       let open_now : AreOpen given (actions ++ took) placed id old.requests asked =
@@ -162,7 +167,18 @@ module _ {S : Type 0} (app : Application S) (c : Codec S) (given : Given) (wf : 
       (stands_after app given wf id core.member steps taken same actions (may_both given actions took (new_cluster given) may may_took) new.server
       (subst (λ g. Represents app (with_steps app g taken (server_packed app (server_after given actions id))) new.server) core.given_is
       (takes (server_packed app (server_after given actions id)) core.stands)))
-      (sent_are (after_actions given (actions ++ took) (new_cluster given)).released.bag)
+      (still_sent app c given actions took (frames_of out) sent_are)
+
+  -- and none that needs any
+  pub stepped : (steps : List Step) (taken : List (PackedStep S)) → AreSteps app steps taken → new.server.given ≡ old.server.given
+      → ((s : PackedServer S) → Represents app s old.server → Represents app (with_steps app old.server.given taken s) new.server) → new.id ≡ old.id
+      → AllByRecursion (λ (s : Step). MayTake bag id s.act) steps
+      → AllByRecursion (λ (s : Step). NoPropose s.act) steps → (rs : List Reply) (o : Open) → replies_of out ≡ rs → new.requests ≡ o
+      → (AreOpen given (actions ++ map (Takes id) steps) placed id old.requests asked
+      → Closed given (actions ++ map (Takes id) steps) placed id asked rs o)
+      → ((bag : List Message) → AreSent app c bag (frames_of out)) → Kept (taking id steps)
+  stepped steps taken same given_same takes is m n rs o e q close sent_are =
+      stepped_by steps taken same given_same takes is m n rs o e q close (sent_are bag)
 
   pub initializes : Initializes app old out new → KeptBy (initialized app old)
   initializes m = (
@@ -190,25 +206,64 @@ module _ {S : Type 0} (app : Application S) (c : Codec S) (given : Given) (wf : 
             (asks_sent app c bag t.asks (replies_out rs ++ reads_out ys) (no_told_frames S rs ys))),
       )
 
-  pub receives : IsCodec c → (bytes : List ℕ) (r : ReceivesSent app c given actions bytes old out new) → KeptBy (received app old out new c bytes r.1)
-  receives inverse bytes (from, (frames.Packet p, is, (m, e, t))) =
+  -- a message is taken that has left a server
+  took_message : (m : PackedMessage S) (others : List (Output S)) → m.message.to ≡ old.id
+      → TakesSteps app (step_taking old.clock m ∷ []) old.server new.server
+      → AnswersAfter old.executed old.requests (with_heard m.message old.reads) others new.requests new.reads → new.id ≡ old.id
+      → (x : Message) → Contains bag x → packed_message app x ≡ m → replies_of out ≡ replies_of others
+      → (AreSent app c bag (frames_of others) → AreSent app c bag (frames_of out)) → KeptBy (step_taking old.clock m ∷ [])
+  took_message m others to takes a same_id x left is said sent_are =
       let heard : ReadsView = with_heard m.message old.reads in
-      let rs : List Reply = lost_replies t.answers.lost old.requests in
-      let ys : List Reply = refused_replies t.answers.gone heard ++ read_replies old.executed (refused_left t.answers.gone heard) in
-      let x : (x : Message) × Contains bag x × (packed_message app x ≡ message_of app m) = taken_sent app c inverse bag bytes p m from is.0 is.1 e in
-      let steps : List Step = acts_at old.clock (acts.Take x.0 ∷ []) in
-      let taken : List (PackedStep S) = step_taking old.clock (message_of app m) ∷ [] in
-      let same : AreSteps app steps taken = ap (λ (y : PackedMessage S). step_taking old.clock y ∷ []) x.2 in
-      let to : x.0.to ≡ id = ap (λ (y : PackedMessage S). y.message.to) x.2 ∙ (t.to ∙ core.own) in (
+      let rs : List Reply = lost_replies a.lost old.requests in
+      let ys : List Reply = refused_replies a.gone heard ++ read_replies old.executed (refused_left a.gone heard) in
+      let steps : List Step = acts_at old.clock (acts.Take x ∷ []) in
+      let taken : List (PackedStep S) = step_taking old.clock m ∷ [] in
+      let same : AreSteps app steps taken = ap (λ (y : PackedMessage S). step_taking old.clock y ∷ []) is in
+      let own : x.to ≡ id = ap (λ (y : PackedMessage S). y.message.to) is ∙ (to ∙ core.own) in (
         steps,
         same,
-        stepped steps taken same t.takes.given t.takes.steps (ap (λ (v : CoreView S). v.id) t.rest) ((x.1, to), tt) (take_no x.0, tt)
-            rs (lost_left t.answers.lost old.requests) (ap replies_of t.answers.leaves ∙ before rs (reads_out ys) (none_read S ys))
-            t.answers.requests_left
-            (λ k. closes_lost given _ placed id t.answers.lost asked old.requests k)
-            (λ bag. none_sent app c bag out (ap frames_of t.answers.leaves ∙ no_told_frames S rs ys)),
+        stepped_by steps taken same takes.given takes.steps same_id ((left, own), tt) (take_no x, tt)
+            rs (lost_left a.lost old.requests) (said ∙ (ap replies_of a.leaves ∙ before rs (reads_out ys) (none_read S ys)))
+            a.requests_left
+            (λ k. closes_lost given _ placed id a.lost asked old.requests k)
+            (sent_are (none_sent app c bag others (ap frames_of a.leaves ∙ no_told_frames S rs ys))),
       )
-  receives inverse bytes (from, (frames.PreVote ask, is, t)) = (
+
+  -- no step is taken
+  idle : new.server ≡ old.server → new.id ≡ old.id → new.requests ≡ old.requests → replies_of out ≡ [] → AreSent app c bag (frames_of out) → KeptBy []
+  idle server same_id requests said sent_are = (
+    [],
+    refl,
+    stepped_by [] [] refl (ap (λ (v : ServerView S). v.given) server) (λ s is. subst (Represents app s) (sym server) is)
+        same_id tt tt [] old.requests said requests (λ k. closes_none given _ placed id asked old.requests k) sent_are,
+  )
+
+  receives_content : IsCodec c → BringAlike app c bag → IsMoving app c bag old → (bytes : List ℕ) (p : PackedPacket (Packed S))
+      → IsSent app c bag bytes → (packed_packet (kept c)).fits p → bytes ≡ 0 ∷ (packed_packet (kept c)).bytes p
+      → (x : PackedContent (Packed S)) → p.content ≡ x → (t : TakesContent app c x old out new) → KeptBy (carried app old out new c x t)
+  receives_content inverse alike moving bytes p from fits is (content.Message m) e t =
+      let x : (x : Message) × Contains bag x × (packed_message app x ≡ message_of app m) = taken_sent app c inverse bag bytes p m from fits is e in
+      took_message (message_of app m) out t.to t.takes t.answers (ap (λ (v : CoreView S). v.id) t.rest) x.0 x.1 x.2 refl (λ h. h)
+  receives_content inverse alike moving bytes p from fits is (content.Part x) e (inl k) =
+      idle (ap (λ (v : CoreView S). v.server) k.rest) (ap (λ (v : CoreView S). v.id) k.rest) (ap (λ (v : CoreView S). v.requests) k.rest)
+      (ap replies_of k.leaves)
+      (subst (λ (o : List (Output S)). AreSent app c bag (frames_of o)) (sym k.leaves) (part_answered app c bag (reply_to x old k.comes) [] tt))
+  receives_content inverse alike moving bytes p from fits is (content.Part x) e (inr t) =
+      let o : (o : Outgoing) × IsGoing app c bag o × IsPartOf o x = part_sent app c inverse bag bytes p x from fits is e in
+      let m : PackedMessage S = record { message = x.message; brought = t.snapshot } in
+      let brings : packed_message app o.1.message ≡ m =
+      part_completes app c bag alike inverse x old.incoming t.comes moving.coming o.0 o.1 o.2 t.bytes t.whole t.snapshot t.fits t.is in
+      took_message m t.others t.takes.to t.takes.takes t.takes.answers (ap (λ (v : CoreView S). v.id) t.takes.rest) o.1.message o.1.left brings
+      (ap replies_of t.leaves)
+      (λ h. subst (λ (o : List (Output S)). AreSent app c bag (frames_of o)) (sym t.leaves) (part_answered app c bag (reply_to x old t.comes) t.others h))
+
+  pub receives : IsCodec c → (bytes : List ℕ) (r : ReceivesSent app c given actions bytes old out new) → KeptBy (received app old out new c bytes r.1)
+  receives inverse bytes ((from, moving), (frames.Packet p, is, t)) =
+      receives_content inverse (snapshots_agree given wf actions may) moving bytes p from is.0 is.1 p.content refl t
+  receives inverse bytes ((from, moving), (frames.PartReply reply, is, t)) =
+      idle (ap (λ (v : CoreView S). v.server) t.rest) (ap (λ (v : CoreView S). v.id) t.rest) (ap (λ (v : CoreView S). v.requests) t.rest)
+      (none_went c old.start old.outgoing out t.leaves) (went_sent app c bag old.start old.outgoing moving.going out t.leaves)
+  receives inverse bytes ((from, moving), (frames.PreVote ask, is, t)) = (
     [],
     refl,
     stepped [] [] refl (ap (λ (v : CoreView S). v.server.given) t.rest) (λ s is. subst (λ (v : CoreView S). Represents app s v.server) (sym t.rest) is)
@@ -217,7 +272,7 @@ module _ {S : Type 0} (app : Application S) (c : Codec S) (given : Given) (wf : 
         (λ k. closes_none given _ placed id asked old.requests k)
         (λ bag. subst (λ (o : List (Output S)). AreSent app c bag (frames_of o)) (sym t.leaves) (granted_sent app c bag t.replies)),
   )
-  receives inverse bytes (from, (frames.PreVoteReply reply, is, t)) =
+  receives inverse bytes ((from, moving), (frames.PreVoteReply reply, is, t)) =
       let steps : List Step = acts_at old.clock (map act_of t.moves) in
       let taken : List (PackedStep S) = received app old out new c bytes (frames.PreVoteReply reply, is, t) in
       let same : AreSteps app steps taken = acts_packed app old.clock (map act_of t.moves) (moves_plain t.moves) in (
@@ -272,7 +327,7 @@ module _ {S : Type 0} (app : Application S) (c : Codec S) (given : Given) (wf : 
     said =
         replies_more r.frames (map install r.said.installed ++ executed_outputs es old.requests.proposed)
         ∙ (ap (λ rs. rs ++ replies_of (map install r.said.installed ++ executed_outputs es old.requests.proposed))
-        (none_framed app c old.start r.said.bag r.frames r.sends)
+        (none_framed app c old.start r.said.bag r.frames r.sends.leave)
         ∙ (replies_more (map install r.said.installed) (executed_outputs es old.requests.proposed)
         ∙ ap (λ rs. rs ++ replies_of {S = S} (executed_outputs es old.requests.proposed)) (none_installed r.said.installed)))
 
@@ -289,6 +344,20 @@ module _ {S : Type 0} (app : Application S) (c : Codec S) (given : Given) (wf : 
     abbrev bag_now : List Message
     bag_now = (after_actions given (actions ++ flushed) (new_cluster given)).released.bag
 
+    -- what goes out in parts from now on has left a server
+    pub begun_going : (o : Outgoing) → IsBegun app c old.start r.said.bag o → IsGoing app c bag_now o
+    begun_going o b =
+        let among : Contains (map (packed_message app) theirs.bag) b.message =
+        subst (λ (s : PackedRecords S). Contains s.bag b.message) said_is b.among in
+        let m : (m : Message) × Contains theirs.bag m × (packed_message app m ≡ b.message) =
+        unmapped (packed_message app) theirs.bag b.message among in
+        record {
+          message = m.0;
+          left = bag_said given count actions id m.0 m.1;
+          fits = subst (λ (y : PackedMessage S). (kept c).fits y.brought) (sym m.2) b.fits;
+          is = b.is ∙ ap (outgoing_of c) (sym m.2);
+        }
+
     pub releases : Kept (flushes id (released position old))
     releases =
         keeps_same flushed (flushes_own id count) (may_flushed count (after_actions given actions (new_cluster given))) placed_now
@@ -303,7 +372,7 @@ module _ {S : Type 0} (app : Application S) (c : Codec S) (given : Given) (wf : 
         (subst (λ (o : List (Output S)). AreSent app c bag_now (frames_of o)) (sym r.leaves)
         (sent_before app c bag_now (said_outputs r.frames r.said old.requests.proposed) (reads_out told_reads)
         (said_sent app c bag_now old.start theirs.bag r.frames r.said.installed es old.requests.proposed
-        (subst (λ (s : PackedRecords S). Sends app c old.start s.bag r.frames) said_is r.sends)
+        (subst (λ (s : PackedRecords S). LeaveAll app c old.start s.bag r.frames) said_is r.sends.leave)
         (λ m k. bag_said given count actions id m k))
         (no_read_frames S told_reads)))
 

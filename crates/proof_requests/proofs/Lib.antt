@@ -21,12 +21,14 @@ pub mod Reading  -- when a read by the rule is done, and that it returns
 pub mod Silent  -- which steps answer, and whose answers wait
 pub mod Closing  -- answers to the first requests
 pub mod Batches  -- a batch of requests, and its values
+pub mod Moved  -- snapshots that go out and come in parts
 pub mod Sent  -- frames that leave servers
 pub mod Calls  -- each call keeps requests beside the model
 pub mod Writes  -- so does a write, by which requests are proposed
 pub mod ReadCalls  -- reads after more actions, and their answers
 pub mod ReadsKept  -- each call keeps reads beside the model
 pub mod Queues  -- what is open once the first have their answers
+pub mod MovedCalls  -- what each call does with parts
 pub mod Others  -- other servers are as they were
 pub mod Beside  -- and so do servers with their clients
 pub mod NewLogs  -- also if one begins a new log

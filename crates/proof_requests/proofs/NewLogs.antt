@@ -1,6 +1,5 @@
 -- A server begins a new log, and servers with their clients stay beside the model: what is on disk no client sees.
-use Rattle.std.proofs.Common.{ℕ, ◌≡◌, ◌∙◌, ⊎_elim, List, Option, Some, sym, subst}
-use Rattle.std.proofs.lemmas.Bool.{cases_eq}
+use Rattle.std.proofs.Common.{ℕ, ◌≡◌, List, Some, sym, ap, subst}
 use Rattle.raft_frames.specs.declared.header.LogId.{LogId as LogName}
 use Rattle.raft_codec.specs.Codec.{Codec}
 use Rattle.raft_node.specs.declared.given.Given.{Given}
@@ -8,7 +7,7 @@ use Rattle.proof_clients.proofs.Sequences.{each_of}
 use Rattle.proof_packed.specs.Stores.{Application}
 use Rattle.raft_core.specs.proof_packed_servers.Checkpoints.{packed_checkpointed}
 use Rattle.raft_core.specs.proof_packed_servers.Servers.{PackedServer, server_packed}
-use Rattle.proof_servers.specs.Servers.{Action}
+use Rattle.proof_servers.specs.Servers.{Action, after_actions, new_cluster}
 use Rattle.raft_core.specs.raft_packed_server.declared.batch.Written.{Written}
 use Rattle.raft_core.specs.raft_packed_server.Checkpoints.{GoesOnWithNewLog, with_new_log}
 use Rattle.raft_core.specs.raft_packed_server.Represents.{StandsFor}
@@ -16,22 +15,11 @@ use Rattle.raft_core.proofs.raft_packed_server_proofs.Renewed.{checkpoint_alike,
 use Rattle.raft_core.specs.Calls.{BeginsNewLog}
 use Rattle.raft_core.specs.Views.{CoreView}
 use Rattle.proof_requests.specs.Clients.{AreBeside, Cores, IsOver, with_one}
+use Rattle.proof_requests.specs.Moving.{IsMoving}
 use Rattle.proof_requests.specs.ReadLaws.{IsReader}
 use Rattle.proof_requests.specs.Requests.{IsCore, Placed, server_after}
-use Rattle.proof_requests.proofs.Beside.{some_same}
+use Rattle.proof_requests.proofs.MovedCalls.{moving_same, with_core}
 use Rattle.proof_requests.proofs.Packs.{stands_on}
-use Rattle.proof_requests.proofs.Queues.{one_other, one_own}
-
--- what is so of each server that runs, and of a new one, is so with the new one in its place
-each_core : {S : Type 0} (P : ℕ → CoreView S → Type 0) (cores : ℕ → Option (CoreView S)) (id : ℕ) (new : CoreView S) → P id new
-    → ((i : ℕ) (v : CoreView S) → cores i ≡ Some v → P i v) → (i : ℕ) (v : CoreView S) → with_one id (Some new) cores i ≡ Some v → P i v
-each_core {S} P cores id new own others i v e =
-    ⊎_elim
-    (λ (q : i ≡ id).
-    let same : new ≡ v = some_same new v (sym (one_own id (Some new) cores) ∙ subst (λ (j : ℕ). with_one id (Some new) cores j ≡ Some v) q e) in
-    subst (λ (j : ℕ). P j v) (sym q) (subst (P id) same own))
-    (λ d. others i v (sym (one_other id i (Some new) cores d) ∙ e))
-    (cases_eq i id)
 
 module _ {S : Type 0} (app : Application S) (codec : Codec S) (given : Given) (actions : List Action) (placed : List Placed)
     (s : Cores S) (h : AreBeside app codec given actions placed s) (id : ℕ) (log : LogName) (old new : CoreView S) (w : Written)
@@ -71,8 +59,8 @@ module _ {S : Type 0} (app : Application S) (codec : Codec S) (given : Given) (a
   beside_new_log = record {
     may = h.may;
     placed_are = h.placed_are;
-    running = each_core (λ i v. IsCore app given actions placed i v (s.open_at i)) s.cores id new core_now h.running;
-    reading = each_core (λ i v. IsReader given actions i v (s.reads_at i)) s.cores id new reader_now h.reading;
+    running = with_core (λ i v. IsCore app given actions placed i v (s.open_at i)) s.cores id new core_now h.running;
+    reading = with_core (λ i v. IsReader given actions i v (s.reads_at i)) s.cores id new reader_now h.reading;
     bare = h.bare;
     numbers = h.numbers;
     rises = h.rises;
@@ -86,4 +74,9 @@ module _ {S : Type 0} (app : Application S) (codec : Codec S) (given : Given) (a
         (λ e o. record { below = o.below; apart = o.apart; early = o.early; was_told = o.was_told }) s.done h.over;
     once = h.once;
     frames = h.frames;
+    moving = with_core (λ i v. IsMoving app codec (after_actions given actions (new_cluster given)).released.bag v) s.cores id new
+        (moving_same app codec (after_actions given actions (new_cluster given)).released.bag old new
+        (record { outgoing = ap (λ (v : CoreView S). v.outgoing) begins.rest; incoming = ap (λ (v : CoreView S). v.incoming) begins.rest })
+        (h.moving id old runs))
+        h.moving;
   }

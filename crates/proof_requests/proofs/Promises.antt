@@ -1,5 +1,5 @@
 -- The laws.
-use Rattle.std.proofs.Common.{ℕ, inr, ⊎_elim, List}
+use Rattle.std.proofs.Common.{ℕ, inr, ⊎_elim, List, ◌++◌}
 use Rattle.raft_calls.specs.declared.message.Message.{Message}
 use Rattle.raft_codec.specs.Codec.{Codec, IsCodec}
 use Rattle.raft_node.specs.declared.given.Given.{Given}
@@ -15,13 +15,16 @@ use Rattle.raft_core.specs.Views.{CoreView}
 use Rattle.proof_requests.specs.Actions.{AreSteps, Initializes, flushes, initialized, received, released, taking, ticked, written}
 use Rattle.proof_requests.specs.Clients.{AreBeside, Cores, CoresSeeOne, StayBeside, StayBy, StayBySteps, StaysBy, StaysByFrame, StaysByRelease}
 use Rattle.proof_requests.specs.Frames.{IsSent}
+use Rattle.proof_requests.specs.Moving.{IsMoving}
 use Rattle.proof_requests.specs.Laws.{Keeps, OfCalls, RequestsAreKept}
 use Rattle.proof_requests.specs.ReadLaws.{KeepsReads, OfReadCalls}
 use Rattle.proof_requests.specs.Requests.{Placed}
+use Rattle.proof_requests.proofs.MovedCalls.{StayMoving, initialized_same, moving_later, moving_same, received_moving, released_moving, ticked_same}
+use Rattle.proof_requests.proofs.MovedCalls.{written_same}
 use Rattle.proof_requests.proofs.Beside.{beside_call, beside_first, beside_read, beside_reading, beside_request, beside_start, beside_stop}
 use Rattle.proof_requests.proofs.Beside.{first_answered}
 use Rattle.proof_requests.proofs.Beside.{first_read}
-use Rattle.proof_requests.proofs.Calls.{admits, initializes, opens, receives, releases, ticks}
+use Rattle.proof_requests.proofs.Calls.{admits, begun_going, initializes, opens, receives, releases, ticks}
 use Rattle.proof_requests.proofs.Histories.{ops_told}
 use Rattle.proof_requests.proofs.NewLogs.{beside_new_log}
 use Rattle.proof_requests.proofs.ReadsKept.{reads_are_kept}
@@ -46,44 +49,51 @@ module _ {S : Type 0} (app : Application S) (c : Codec S) where
   -- a call that keeps requests and reads beside the model
   stay : (given : Given) (actions : List Action) (placed : List Placed) (s : Cores S) → AreBeside app c given actions placed s
       → (id : ℕ) (new : CoreView S) (out : List (Output S)) (took : List Action) → Keeps app c given actions placed id (s.open_at id) out new took
-      → KeepsReads given actions id (s.reads_at id) out new took → StayBy app c given actions placed s id out new took
-  stay given actions placed s h id new out took k r = record {
+      → KeepsReads given actions id (s.reads_at id) out new took
+      → IsMoving app c (after_actions given (actions ++ took) (new_cluster given)).released.bag new
+      → StayBy app c given actions placed s id out new took
+  stay given actions placed s h id new out took k r moved = record {
     more = k.more;
-    beside = beside_call app c given actions placed s h id new out took k r;
-    first = first_answered app c given actions placed s h id new out took k r;
-    first_reads = first_read app c given actions placed s h id new out took k r;
+    beside = beside_call app c given actions placed s h id new out took k r moved;
+    first = first_answered app c given actions placed s h id new out took k r moved;
+    first_reads = first_read app c given actions placed s h id new out took k r moved;
   }
 
   -- by steps
   stay_steps : (given : Given) (actions : List Action) (placed : List Placed) (s : Cores S) → AreBeside app c given actions placed s
       → (id : ℕ) (new : CoreView S) (out : List (Output S)) (taken : List (PackedStep S))
       → (k : (steps : List Step) × AreSteps app steps taken × Keeps app c given actions placed id (s.open_at id) out new (taking id steps))
-      → KeepsReads given actions id (s.reads_at id) out new (taking id k.0) → StayBySteps app c given actions placed s id out new taken
-  stay_steps given actions placed s h id new out taken k r = (k.0, k.1, stay given actions placed s h id new out (taking id k.0) k.2 r)
+      → KeepsReads given actions id (s.reads_at id) out new (taking id k.0)
+      → IsMoving app c (after_actions given actions (new_cluster given)).released.bag new → StayBySteps app c given actions placed s id out new taken
+  stay_steps given actions placed s h id new out taken k r moved =
+      (k.0, k.1, stay given actions placed s h id new out (taking id k.0) k.2 r (moving_later app c given actions (taking id k.0) new moved))
 
   stays_by : (Does : CoreView S → List (Output S) → CoreView S → Type 0)
       (taken : (old : CoreView S) (out : List (Output S)) (new : CoreView S) → Does old out new → List (PackedStep S))
       → OfCalls app c (λ given actions old out new. Does old out new) (λ given actions old out new d. taken old out new d)
-      → OfReadCalls app Does taken → StaysBy app c Does taken
-  stays_by Does taken keeps reads given wf actions placed s h id old new out runs d =
+      → OfReadCalls app Does taken → ((old : CoreView S) (out : List (Output S)) (new : CoreView S) → Does old out new → StayMoving old new)
+      → StaysBy app c Does taken
+  stays_by Does taken keeps reads stays given wf actions placed s h id old new out runs d =
       let k : (steps : List Step) × AreSteps app steps (taken old out new d)
       × Keeps app c given actions placed id (s.open_at id) out new (taking id steps) =
       keeps given wf actions h.may placed h.placed_are id (s.open_at id) old new out (h.running id old runs) d in
       stay_steps given actions placed s h id new out (taken old out new d) k
       (reads given wf actions h.may placed id (s.open_at id) (s.reads_at id) old new out (h.running id old runs) (h.reading id old runs) d k.0 k.1
       k.2.may)
+      (moving_same app c (after_actions given actions (new_cluster given)).released.bag old new (stays old out new d) (h.moving id old runs))
 
   stays_by_frame : IsCodec c → StaysByFrame app c
   stays_by_frame inverse given wf actions placed s h id old new out bytes runs from r =
       let bag : List Message = (after_actions given actions (new_cluster given)).released.bag in
-      let sent : IsSent app c bag bytes = ⊎_elim (λ k. element (IsSent app c bag) s.sent bytes h.frames k) inr from in
+      let sent : IsSent app c bag bytes = ⊎_elim (λ k. element (IsSent app c bag) s.sent bytes h.frames k) (λ d. inr (inr d)) from in
       let k : (steps : List Step) × AreSteps app steps (received app old out new c bytes r)
       × Keeps app c given actions placed id (s.open_at id) out new (taking id steps) =
       (requests_are_kept inverse).receives bytes given wf actions h.may placed h.placed_are id (s.open_at id) old new out (h.running id old runs)
-      (sent, r) in
+      ((sent, h.moving id old runs), r) in
       stay_steps given actions placed s h id new out (received app old out new c bytes r) k
       ((reads_are_kept app c).receives bytes given wf actions h.may placed id (s.open_at id) (s.reads_at id) old new out (h.running id old runs)
       (h.reading id old runs) r k.0 k.1 k.2.may)
+      (received_moving app c inverse given wf actions h.may old new out bytes sent r (h.moving id old runs))
 
   stays_by_release : StaysByRelease app c
   stays_by_release position given wf actions placed s h id old new out runs r =
@@ -91,6 +101,9 @@ module _ {S : Type 0} (app : Application S) (c : Codec S) where
       (releases app c given wf actions h.may placed h.placed_are id (s.open_at id) old new out (h.running id old runs) position r)
       ((reads_are_kept app c).releases position given wf actions h.may placed id (s.open_at id) (s.reads_at id) old new out (h.running id old runs)
       (h.reading id old runs) r)
+      (released_moving app c (after_actions given (actions ++ flushes id (released position old)) (new_cluster given)).released.bag position old new out r
+      (λ o b. begun_going app c given wf actions h.may placed h.placed_are id (s.open_at id) old new out (h.running id old runs) position r o b)
+      (moving_later app c given actions (flushes id (released position old)) old (h.moving id old runs)))
 
   pub stay_beside : IsCodec c → StayBeside app c
   stay_beside inverse = record {
@@ -102,10 +115,12 @@ module _ {S : Type 0} (app : Application S) (c : Codec S) where
         beside_request app c given actions placed s h id old new token operation runs a;
     rule_reads = λ given actions placed s h id old new token runs a. beside_read app c given actions placed s h id old new token runs a;
     initializes = stays_by (Initializes app) (λ old out new d. initialized app old) (requests_are_kept inverse).initializes
-        (reads_are_kept app c).initializes;
-    ticks = stays_by (Ticks app) (λ old out new d. ticked app old out new d) (requests_are_kept inverse).ticks (reads_are_kept app c).ticks;
+        (reads_are_kept app c).initializes (initialized_same app c);
+    ticks = stays_by (Ticks app) (λ old out new d. ticked app old out new d) (requests_are_kept inverse).ticks (reads_are_kept app c).ticks
+        (ticked_same app c);
     receives = stays_by_frame inverse;
-    writes = stays_by (Writes app c) (λ old out new d. written app c old out new d) (requests_are_kept inverse).writes (reads_are_kept app c).writes;
+    writes = stays_by (Writes app c) (λ old out new d. written app c old out new d) (requests_are_kept inverse).writes (reads_are_kept app c).writes
+        (written_same app c);
     releases = stays_by_release;
     new_logs = λ given actions placed s h id log old new w runs b.
         beside_new_log app c given actions placed s h id log old new w runs b;

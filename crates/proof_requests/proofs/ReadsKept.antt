@@ -27,8 +27,10 @@ use Rattle.raft_node.specs.WellFormed.{IsWellFormed}
 use Rattle.raft_answers.specs.declared.answer.Reply.{Reply}
 use Rattle.raft_answers.specs.declared.request.Operation.TheVariants.{Read}
 use Rattle.proof_packed.specs.Nodes.{PackedInstalled, PackedMessage, PackedNode, PackedRecords, bare_engine, packed_records}
-use Rattle.proof_packed.specs.Stores.{Application, packed}
+use Rattle.proof_packed.specs.Stores.{Application, Packed, packed}
 use Rattle.raft_core.specs.proof_packed_servers.Servers.{packed_flushed_first, server_packed}
+use Rattle.raft_core.specs.raft_packed_wire.declared.packet.PackedContent.{PackedContent}
+use Rattle.raft_core.specs.raft_packed_wire.declared.packet.PackedContent.TheVariants as content
 use Rattle.raft_core.specs.raft_packed_wire.Messages.{received as message_of}
 use Rattle.raft_core.specs.raft_packed_server.declared.serving.Serving.{Serving}
 use Rattle.raft_core.specs.raft_packed_server.Represents.{Represents, StandsFor, said_by}
@@ -38,12 +40,14 @@ use Rattle.raft_core.specs.declared.moves.Move.{Move}
 use Rattle.raft_core.specs.declared.moves.Move.TheVariants.{Beat, ChangeLearners, ChangeVoters, Fail, FinishSnapshot, Stand, StepDown}
 use Rattle.raft_core.specs.declared.output.Output.{Output}
 use Rattle.raft_core.specs.declared.reads.Reader.{Reader}
-use Rattle.raft_core.specs.Calls.{Asks, AsksNode, Proposes, Receives, Releases, Ticks, Writes, WritesNow, engine_in, moment_in}
+use Rattle.raft_core.specs.Calls.{AnswersAfter, Asks, AsksNode, Proposes, Receives, Releases, TakesContent, Ticks, Writes, WritesNow, engine_in}
+use Rattle.raft_core.specs.Calls.{moment_in}
 use Rattle.raft_core.specs.Laws.{read_replies_of}
 use Rattle.raft_core.specs.Reads.{ReadsView, RoundView, asked_for, count_over, count_overdue, handed_after, failed_left, failed_replies, is_free, most_rounds, not_over, read_left, read_replies, refused_left, refused_replies, round_of, under_way, with_heard, with_left}
-use Rattle.raft_core.specs.Steps.{act_of, step_at, steps_at, with_steps}
+use Rattle.raft_core.specs.Parts.{assembled}
+use Rattle.raft_core.specs.Steps.{act_of, step_at, step_taking, steps_at, with_steps}
 use Rattle.raft_core.specs.Views.{CoreView}
-use Rattle.raft_core.proofs.ReadsTold.{none_granted, told_by_message, told_by_release, ticked as told_by_tick, wrote as told_by_write}
+use Rattle.raft_core.proofs.ReadsTold.{none_granted, none_went, told_by_message, told_by_release, ticked as told_by_tick, wrote as told_by_write}
 use Rattle.proof_clients.proofs.Sequences.{element}
 use Rattle.proof_clients.proofs.Slots.{slot_below}
 use Rattle.proof_servers.specs.Follows.{Follows}
@@ -54,7 +58,7 @@ use Rattle.proof_servers.proofs.Follow.{ahead, servers_follow}
 use Rattle.proof_servers.proofs.Told.{nodes_rest}
 use Rattle.proof_answers.specs.Answers.{node_then}
 use Rattle.proof_answers.proofs.Prefixes.{slot_cases, slot_last, take_more}
-use Rattle.proof_requests.specs.Actions.{AreSteps, Initializes, flushes, initialized, received, released, taking, ticked, written}
+use Rattle.proof_requests.specs.Actions.{AreSteps, Initializes, carried, flushes, initialized, received, released, taking, ticked, written}
 use Rattle.proof_requests.specs.OnDisk.{flushed_node}
 use Rattle.proof_requests.specs.Reading.{IsAskedFor, IsHanded, StartsBare}
 use Rattle.proof_requests.specs.ReadLaws.{AdmitsOneRead, AreReadAnswered, AreReads, IsOpenRead, IsReader, IsRound, KeepsReads, ReadsAreKept}
@@ -182,40 +186,70 @@ module _ {S : Type 0} (app : Application S) (given : Given) (wf : IsWellFormed g
       (read_refused given _ id t.answers.gone old.reads reading (now moved plain).reads)
       (λ left h. read_failed given _ id t.upto refused left h)))
 
-  pub receives : (c : Codec S) (bytes : List ℕ) (r : Receives app c bytes old out new) (steps : List Step)
-      → AreSteps app steps (received app old out new c bytes r) → AllMayAct given (actions ++ taking id steps) (new_cluster given)
+  -- a message is taken
+  took_message : (m : PackedMessage S) (others : List (Output S)) → new.executed ≡ old.executed
+      → (a : AnswersAfter old.executed old.requests (with_heard m.message old.reads) others new.requests new.reads)
+      → read_replies_of out ≡ refused_replies a.gone (with_heard m.message old.reads)
+      ++ read_replies old.executed (refused_left a.gone (with_heard m.message old.reads))
+      → (steps : List Step) → AreSteps app steps (step_taking old.clock m ∷ []) → AllMayAct given (actions ++ taking id steps) (new_cluster given)
       → Kept (taking id steps)
-  receives c bytes (frames.Packet p, is, (m, e, t)) steps same may_now =
-      let x : IsTaking app old.clock (message_of app m) steps = is_taking app old.clock (message_of app m) steps same in
-      let heard_as : with_heard (message_of app m).message old.reads ≡ with_heard x.message old.reads =
+  took_message m others executed_is a said steps same may_now =
+      let x : IsTaking app old.clock m steps = is_taking app old.clock m steps same in
+      let heard_as : with_heard m.message old.reads ≡ with_heard x.message old.reads =
       ap (λ (y : PackedMessage S). with_heard y.message old.reads) (sym x.brings) ∙ with_heard_bare x.message old.reads in
       taken x.message heard_as (subst (λ xs. AllMayAct given (actions ++ taking id xs) (new_cluster given)) x.steps_are may_now) x.steps_are
     where
       -- by the model's message
-      taken : (x : Message) → with_heard (message_of app m).message old.reads ≡ with_heard x old.reads
+      taken : (x : Message) → with_heard m.message old.reads ≡ with_heard x old.reads
           → AllMayAct given (actions ++ taking id (acts_at old.clock (acts.Take x ∷ []))) (new_cluster given)
           → steps ≡ acts_at old.clock (acts.Take x ∷ []) → Kept (taking id steps)
       taken x heard_as may steps_are =
           let taking_it : List Step = acts_at old.clock (acts.Take x ∷ []) in
           let plain : ArePlain taking_it = (((λ e. cc), (λ s e. cc)), tt) in
           let heard : ReadsView = with_heard x old.reads in
-          let mid : ReadsView = refused_left t.answers.gone heard in
+          let mid : ReadsView = refused_left a.gone heard in
           let reads : AreReads given (actions ++ map (Takes id) taking_it) id heard reading =
           reads_heard given actions id old.clock x old.reads reading (now taking_it plain).reads in
-          let pend : pending mid.rounds ≡ pending old.reads.rounds = pending_refused t.answers.gone heard ∙ pending_heard x old.reads.rounds in
-          let told : read_replies_of out ≡ refused_replies t.answers.gone heard ++ read_replies old.executed mid =
-          told_by_message app c (message_of app m) old new out t
-          ∙ ap (λ (v : ReadsView). refused_replies t.answers.gone v ++ read_replies old.executed (refused_left t.answers.gone v)) heard_as in
+          let pend : pending mid.rounds ≡ pending old.reads.rounds = pending_refused a.gone heard ∙ pending_heard x old.reads.rounds in
+          let told : read_replies_of out ≡ refused_replies a.gone heard ++ read_replies old.executed mid =
+          said ∙ ap (λ (v : ReadsView). refused_replies a.gone v ++ read_replies old.executed (refused_left a.gone v)) heard_as in
           let left_is : new.reads ≡ read_left old.executed mid =
-          t.answers.reads_left ∙ ap (λ (v : ReadsView). read_left old.executed (refused_left t.answers.gone v)) heard_as in
+          a.reads_left ∙ ap (λ (v : ReadsView). read_left old.executed (refused_left a.gone v)) heard_as in
           subst (λ xs. Kept (taking id xs)) (sym steps_are)
-          (keeps_plain taking_it plain (ap (λ (v : CoreView S). v.executed) t.rest)
-          (refused_replies t.answers.gone heard ++ read_replies old.executed mid) (read_left old.executed mid) told left_is
+          (keeps_plain taking_it plain executed_is
+          (refused_replies a.gone heard ++ read_replies old.executed mid) (read_left old.executed mid) told left_is
           (pending_read old.executed mid ∙ pend)
-          (read_both given _ id reading (refused_replies t.answers.gone heard) (read_replies old.executed mid) mid (read_left old.executed mid)
-          (read_refused given _ id t.answers.gone heard reading reads)
+          (read_both given _ id reading (refused_replies a.gone heard) (read_replies old.executed mid) mid (read_left old.executed mid)
+          (read_refused given _ id a.gone heard reading reads)
           (λ left h. read_over given wf (actions ++ map (Takes id) taking_it) may id old.executed mid left h (now taking_it plain).bare
           (now taking_it plain).handed)))
+
+  -- no step is taken, and no read answered
+  idle : new.executed ≡ old.executed → read_replies_of out ≡ [] → new.reads ≡ old.reads → (steps : List Step) → AreSteps app steps []
+      → Kept (taking id steps)
+  idle executed_is said reads_are steps same =
+      subst (λ xs. Kept (taking id xs)) (sym (acts_only app old.clock [] tt steps same)) (keeps_same [] tt executed_is said reads_are)
+
+  receives_content : (c : Codec S) (x : PackedContent (Packed S)) (t : TakesContent app c x old out new) (steps : List Step)
+      → AreSteps app steps (carried app old out new c x t) → AllMayAct given (actions ++ taking id steps) (new_cluster given) → Kept (taking id steps)
+  receives_content c (content.Message m) t steps same may_now =
+      took_message (message_of app m) out (ap (λ (v : CoreView S). v.executed) t.rest) t.answers (told_by_message app c (message_of app m) old new out t)
+      steps same may_now
+  receives_content c (content.Part x) (inl k) steps same may_now =
+      idle (ap (λ (v : CoreView S). v.executed) k.rest) (ap read_replies_of k.leaves) (ap (λ (v : CoreView S). v.reads) k.rest) steps same
+  receives_content c (content.Part x) (inr t) steps same may_now =
+      let m : PackedMessage S = record { message = x.message; brought = t.snapshot } in
+      let mid : CoreView S = record old { incoming = assembled t.comes } in
+      took_message m t.others (ap (λ (v : CoreView S). v.executed) t.takes.rest) t.takes.answers
+      (ap read_replies_of t.leaves ∙ told_by_message app c m mid new t.others t.takes) steps same may_now
+
+  pub receives : (c : Codec S) (bytes : List ℕ) (r : Receives app c bytes old out new) (steps : List Step)
+      → AreSteps app steps (received app old out new c bytes r) → AllMayAct given (actions ++ taking id steps) (new_cluster given)
+      → Kept (taking id steps)
+  receives c bytes (frames.Packet p, is, t) steps same may_now = receives_content c p.content t steps same may_now
+  receives c bytes (frames.PartReply reply, is, t) steps same may_now =
+      idle (ap (λ (v : CoreView S). v.executed) t.rest) (none_went c old.start old.outgoing out t.leaves) (ap (λ (v : CoreView S). v.reads) t.rest)
+      steps same
   receives c bytes (frames.PreVote ask, is, t) steps same may_now =
       subst (λ xs. Kept (taking id xs)) (sym (acts_only app old.clock [] tt steps same))
       (keeps_same [] tt (ap (λ (v : CoreView S). v.executed) t.rest) (ap read_replies_of t.leaves ∙ none_granted S t.replies)

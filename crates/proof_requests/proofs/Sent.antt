@@ -1,6 +1,6 @@
 -- Frames that leave servers, and what has left the model's.
 use Rattle.std.proofs.Common.{ℕ, zero, suc, ◌≡◌, inl, inr, ⊎_elim, List, [], ◌∷◌, ◌++◌, take, map, refl, sym, ap, ◌∙◌, subst, Option, None, Some, append_assoc}
-use Rattle.std.specs.Prelude.{Contains, Result, Ok, slice_get}
+use Rattle.std.specs.Prelude.{◌⊎◌, Contains, Result, Ok, slice_get}
 use Rattle.std.specs.List.{AllByRecursion}
 use Rattle.std.specs.Option.{option_map, option_to_list}
 use Rattle.std.proofs.lemmas.List.Elements.{Contains-append_cases}
@@ -12,13 +12,13 @@ use Rattle.raft_store.specs.declared.entry.Entry.{Entry}
 use Rattle.raft_answers.specs.declared.answer.Reply.{Reply}
 use Rattle.raft_answers.specs.declared.request.Proposal.{Proposal}
 use Rattle.raft_answers.specs.Answers.{settled_left, settled_replies}
-use Rattle.proof_packed.specs.Nodes.{PackedInstalled, PackedMessage, packed_message}
+use Rattle.proof_packed.specs.Nodes.{PackedInstalled, packed_message}
 use Rattle.proof_packed.specs.Stores.{Application, Packed}
-use Rattle.raft_core.proofs.proof_packed_servers_proofs.Unpacking.{unmapped}
 use Rattle.raft_core.specs.raft_packed_wire.declared.packet.PackedContent.{PackedContent}
 use Rattle.raft_core.specs.raft_packed_wire.declared.packet.PackedContent.TheVariants as content
 use Rattle.raft_core.specs.raft_packed_wire.declared.packet.PackedPacket.{PackedPacket}
 use Rattle.raft_core.specs.raft_packed_wire.declared.packet.SentMessage.{SentMessage}
+use Rattle.raft_core.specs.raft_packed_wire.declared.packet.SentPart.{SentPart}
 use Rattle.raft_core.specs.raft_packed_wire.Messages.{packed_packet, received}
 use Rattle.raft_core.specs.raft_packed_wire.Values.{kept}
 use Rattle.raft_core.proofs.raft_packed_wire_proofs.MessageLaws.{are_read_back}
@@ -28,16 +28,21 @@ use Rattle.raft_core.specs.declared.frame.PreVoteReply.{PreVoteReply}
 use Rattle.raft_core.specs.declared.output.Output.{Output}
 use Rattle.raft_core.specs.declared.output.Output.TheVariants as outputs
 use Rattle.raft_core.specs.Calls.{appended}
-use Rattle.raft_core.specs.Frames.{asked, granted}
-use Rattle.raft_core.specs.Outputs.{AreReadBack, Sends, executed_outputs, install, packet_of, reads_out, replies_out, sent}
+use Rattle.raft_core.specs.declared.frame.PartReply.{PartReply}
+use Rattle.raft_core.specs.Frames.{answered as part_answer, asked, granted}
+use Rattle.raft_core.specs.Outputs.{LeaveAll, LeavesInParts, LeavesWhole, executed_outputs, install, packet_frame, packet_of, reads_out, replies_out}
+use Rattle.raft_core.specs.Parts.{AreParts, IsPartOf, Outgoing, outgoing_of, part_frame, part_packet}
+use Rattle.proof_clients.proofs.Sequences.{each_of}
 use Rattle.proof_clients.proofs.Slots.{here, there}
+use Rattle.proof_deeds.proofs.Promised.{one_of}
 use Rattle.proof_servers.specs.Servers.{Action, Flushes, Server, WaitingStep, after_actions, new_cluster}
-use Rattle.proof_servers.proofs.Included.{contains_map}
 use Rattle.proof_requests.specs.Actions.{flushes}
-use Rattle.proof_requests.specs.Frames.{IsPacket, IsSent, frames_of}
+use Rattle.proof_requests.specs.Frames.{IsPacket, IsPartFrame, IsSent, frames_of}
+use Rattle.proof_requests.specs.Moving.{IsGoing}
 use Rattle.proof_requests.specs.Requests.{server_after}
 use Rattle.proof_requests.proofs.Left.{bag_more, bag_oldest}
 use Rattle.proof_requests.proofs.Lists.{all_append, none_in}
+use Rattle.proof_requests.proofs.Moved.{going_on}
 use Rattle.proof_requests.proofs.Packs.{said_all}
 use Rattle.proof_requests.proofs.Told.{server_flushed}
 
@@ -101,7 +106,7 @@ module _ {S : Type 0} (app : Application S) (c : Codec S) where
     -- questions and answers before votes, and replies
     asked_sent : (asks : List PreVote) → AreSent (frames_of {S = S} (map asked asks))
     asked_sent [] = tt
-    asked_sent (a ∷ asks) = (inr (λ e. cc), asked_sent asks)
+    asked_sent (a ∷ asks) = (inr (inr (λ e. cc)), asked_sent asks)
 
     pub asks_sent : (asks : List PreVote) (rest : List (Output S)) → frames_of rest ≡ [] → AreSent (frames_of (map asked asks ++ rest))
     asks_sent asks rest e =
@@ -115,36 +120,46 @@ module _ {S : Type 0} (app : Application S) (c : Codec S) where
 
     pub granted_sent : (r : Option PreVoteReply) → AreSent (frames_of {S = S} (option_to_list (option_map granted r)))
     granted_sent None = tt
-    granted_sent (Some r) = (inr (λ e. cc), tt)
+    granted_sent (Some r) = (inr (inr (λ e. cc)), tt)
 
-    -- a message that has left, as it is sent
-    abbrev HasLeft : SentMessage (Packed S) → Type 0
-    HasLeft x = (m : Message) × Contains bag m × (packed_message app m ≡ received app x)
+    -- parts of a snapshot
+    parts_sent : (start : ℕ) (o : Outgoing) → IsGoing app c bag o → (out : List (Output S)) → AreParts c start o out → AreSent (frames_of out)
+    parts_sent start o g [] h = tt
+    parts_sent start o g (x ∷ out) h =
+        let one : IsPartFrame app c bag (part_frame c start h.0.part) =
+        record { start = start; outgoing = o; going = g; part = h.0.part; is_part = h.0.is_part; fits = h.0.fits; frame = refl } in
+        subst (λ (y : Output S). AreSent (frames_of (y ∷ out))) (sym h.0.leaves) (inr (inl one), parts_sent start o g out h.1)
 
-    -- messages in packets
-    packets_sent : (start : ℕ) (xs : List (SentMessage (Packed S))) → AreReadBack c start xs
-        → ((x : SentMessage (Packed S)) → Contains xs x → HasLeft x)
-        → AreSent (frames_of (map (sent c start) xs))
-    packets_sent start [] r f = tt
-    packets_sent start (x ∷ xs) r f =
-        let m : HasLeft x = f x (here x xs) in
-        let one : IsPacket app c bag (0 ∷ (packed_packet (kept c)).bytes (packet_of start x)) =
-        record { start = start; packet = x; message = m.0; left = m.1; brings = sym m.2; fits = r.0; frame = refl } in
-        (inl one, packets_sent start xs r.1 (λ y k. f y (there x xs y k)))
+    -- of one that is outgoing, if any leave
+    pub went_sent : (start : ℕ) (old : List Outgoing) → AllByRecursion (IsGoing app c bag) old → (out : List (Output S))
+        → (out ≡ []) ⊎ ((o : Outgoing) × Contains old o × AreParts c start o out) → AreSent (frames_of out)
+    went_sent start old g out (inl none) = none_sent out (ap frames_of none)
+    went_sent start old g out (inr (o, there, parts)) = parts_sent start o (one_of (IsGoing app c bag) old o g there) out parts
 
-    -- messages that the model's steps say
-    messages_sent : (start : ℕ) (ms : List Message) (out : List (Output S)) → Sends app c start (map (packed_message app) ms) out
+    pub part_answered : (r : PartReply) (out : List (Output S)) → AreSent (frames_of out) → AreSent (frames_of (part_answer r ∷ out))
+    part_answered r out h = (inr (inr (λ e. cc)), h)
+
+    -- a message that the model's steps say, whole or in parts
+    one_sent : (start : ℕ) (m : Message) (out : List (Output S)) → Contains bag m
+        → LeavesWhole app c start (packed_message app m) out ⊎ LeavesInParts app c start (packed_message app m) out → AreSent (frames_of out)
+    one_sent start m out left (inl w) =
+        let one : IsPacket app c bag (packet_frame c start w.packet) =
+        record { start = start; packet = w.packet; message = m; left = left; brings = w.of_message; fits = w.fits; frame = refl } in
+        subst (λ (o : List (Output S)). AreSent (frames_of o)) (sym w.leaves) (inl one, tt)
+    one_sent start m out left (inr p) =
+        parts_sent start (outgoing_of c (packed_message app m)) (record { message = m; left = left; fits = p.fits; is = refl }) out p.parts
+
+    messages_sent : (start : ℕ) (ms : List Message) (out : List (Output S)) → LeaveAll app c start (map (packed_message app) ms) out
         → ((m : Message) → Contains ms m → Contains bag m) → AreSent (frames_of out)
-    messages_sent start ms out s f =
-        subst (λ (o : List (Output S)). AreSent (frames_of o)) (sym s.leaves)
-        (packets_sent start s.packets s.read_back (λ x k.
-        let among : Contains (map (packed_message app) ms) (received app x) =
-        subst (λ (ps : List (PackedMessage S)). Contains ps (received app x)) s.of_messages (contains_map (received app) s.packets x k) in
-        let m : (m : Message) × Contains ms m × (packed_message app m ≡ received app x) = unmapped (packed_message app) ms (received app x) among in
-        (m.0, f m.0 m.1, m.2)))
+    messages_sent start [] out h f = none_sent out (ap frames_of h)
+    messages_sent start (m ∷ ms) out (front, rest, is, one, others) f =
+        subst (λ (o : List (Output S)). AreSent (frames_of o)) (sym is)
+        (subst AreSent (sym (frames_more front rest))
+        (all_append (IsSent app c bag) (frames_of front) (frames_of rest) (one_sent start m front (f m (here m ms)) one)
+        (messages_sent start ms rest others (λ x k. f x (there m ms x k)))))
 
     pub said_sent : (start : ℕ) (ms : List Message) (frames : List (Output S)) (xs : List (PackedInstalled S)) (es : List Entry) (ps : List Proposal)
-        → Sends app c start (map (packed_message app) ms) frames → ((m : Message) → Contains ms m → Contains bag m)
+        → LeaveAll app c start (map (packed_message app) ms) frames → ((m : Message) → Contains ms m → Contains bag m)
         → AreSent (frames_of (frames ++ (map install xs ++ executed_outputs es ps)))
     said_sent start ms frames xs es ps s f =
         let rest : frames_of (map install xs ++ executed_outputs es ps) ≡ [] =
@@ -163,7 +178,16 @@ module _ {S : Type 0} (app : Application S) (c : Codec S) where
     fits = p.fits;
     frame = p.frame;
   })
-  sent_on bag more f bytes (inr d) = inr d
+  sent_on bag more f bytes (inr (inl p)) = inr (inl (record {
+    start = p.start;
+    outgoing = p.outgoing;
+    going = going_on app c bag more f p.outgoing p.going;
+    part = p.part;
+    is_part = p.is_part;
+    fits = p.fits;
+    frame = p.frame;
+  }))
+  sent_on bag more f bytes (inr (inr d)) = inr (inr d)
 
   -- the message of a packet that was sent has left a server
   module _ (inverse : IsCodec c) where
@@ -182,23 +206,56 @@ module _ {S : Type 0} (app : Application S) (c : Codec S) where
     packet_same x y f g e =
         ok_same x y [] [] (sym (back.read_back x [] f) ∙ (ap (λ bytes. packet.read (bytes ++ [])) e ∙ back.read_back y [] g))
 
+    tail_same : (a b : List ℕ) → ◌≡◌ {A = List ℕ} (0 ∷ a) (0 ∷ b) → a ≡ b
+    tail_same a b e = cc
+
+    frame_same : (x y : PackedPacket (Packed S)) → packet.fits x → packet.fits y → ◌≡◌ {A = List ℕ} (0 ∷ packet.bytes x) (0 ∷ packet.bytes y) → x ≡ y
+    frame_same x y f g e = packet_same x y f g (tail_same (packet.bytes x) (packet.bytes y) e)
+
     pub taken_sent : (bag : List Message) (bytes : List ℕ) (p : PackedPacket (Packed S)) (m : SentMessage (Packed S)) → IsSent app c bag bytes
         → packet.fits p → bytes ≡ 0 ∷ packet.bytes p → p.content ≡ content.Message m
         → (x : Message) × Contains bag x × (packed_message app x ≡ received app m)
     taken_sent bag bytes p m (inl s) f q r =
-        let tails : ◌≡◌ {A = List ℕ} (0 ∷ packet.bytes (packet_of s.start s.packet)) (0 ∷ packet.bytes p) = sym s.frame ∙ q in
-        let same : packet.bytes (packet_of s.start s.packet) ≡ packet.bytes p =
-        tail_same (packet.bytes (packet_of s.start s.packet)) (packet.bytes p) tails in
-        let is : packet_of s.start s.packet ≡ p = packet_same (packet_of s.start s.packet) p s.fits f same in
+        let is : packet_of s.start s.packet ≡ p = frame_same (packet_of s.start s.packet) p s.fits f (sym s.frame ∙ q) in
         let message_is : s.packet ≡ m = message_same s.packet m (ap (λ (x : PackedPacket (Packed S)). x.content) is ∙ r) in
         (s.message, s.left, sym s.brings ∙ ap (received app) message_is)
       where
-        tail_same : (a b : List ℕ) → ◌≡◌ {A = List ℕ} (0 ∷ a) (0 ∷ b) → a ≡ b
-        tail_same a b e = cc
-
         message_same : (a b : SentMessage (Packed S)) → ◌≡◌ {A = PackedContent (Packed S)} (content.Message a) (content.Message b) → a ≡ b
         message_same a b e = cc
-    taken_sent bag bytes p m (inr d) f q r = absurd (d (ap (λ (xs : List ℕ). slice_get xs 0) q))
+    taken_sent bag bytes p m (inr (inl s)) f q r =
+        let is : part_packet c s.start s.part ≡ p = frame_same (part_packet c s.start s.part) p s.fits f (sym s.frame ∙ q) in
+        absurd (no_message s.part m (ap (λ (x : PackedPacket (Packed S)). x.content) is ∙ r))
+      where
+        no_message : (a : SentPart) (b : SentMessage (Packed S)) → ◌≡◌ {A = PackedContent (Packed S)} (content.Part a) (content.Message b) → ⊥
+        no_message a b e = cc
+    taken_sent bag bytes p m (inr (inr d)) f q r = absurd (d (ap (λ (xs : List ℕ). slice_get xs 0) q))
+
+    -- a part that was sent is one of the snapshot of a message that has left a server
+    pub part_sent : (bag : List Message) (bytes : List ℕ) (p : PackedPacket (Packed S)) (x : SentPart) → IsSent app c bag bytes
+        → packet.fits p → bytes ≡ 0 ∷ packet.bytes p → p.content ≡ content.Part x → (o : Outgoing) × IsGoing app c bag o × IsPartOf o x
+    part_sent bag bytes p x (inl s) f q r =
+        let is : packet_of s.start s.packet ≡ p = frame_same (packet_of s.start s.packet) p s.fits f (sym s.frame ∙ q) in
+        absurd (no_part s.packet x (ap (λ (y : PackedPacket (Packed S)). y.content) is ∙ r))
+      where
+        no_part : (a : SentMessage (Packed S)) (b : SentPart) → ◌≡◌ {A = PackedContent (Packed S)} (content.Message a) (content.Part b) → ⊥
+        no_part a b e = cc
+    part_sent bag bytes p x (inr (inl s)) f q r =
+        let is : part_packet c s.start s.part ≡ p = frame_same (part_packet c s.start s.part) p s.fits f (sym s.frame ∙ q) in
+        (s.outgoing, s.going, subst (IsPartOf s.outgoing) (part_same s.part x (ap (λ (y : PackedPacket (Packed S)). y.content) is ∙ r)) s.is_part)
+      where
+        part_same : (a b : SentPart) → ◌≡◌ {A = PackedContent (Packed S)} (content.Part a) (content.Part b) → a ≡ b
+        part_same a b e = cc
+    part_sent bag bytes p x (inr (inr d)) f q r = absurd (d (ap (λ (xs : List ℕ). slice_get xs 0) q))
+
+-- what was sent stays so after more actions
+pub still_sent : {S : Type 0} (app : Application S) (codec : Codec S) (given : Given) (actions took : List Action) (fs : List (List ℕ))
+    → AllByRecursion (IsSent app codec (after_actions given actions (new_cluster given)).released.bag) fs
+    → AllByRecursion (IsSent app codec (after_actions given (actions ++ took) (new_cluster given)).released.bag) fs
+still_sent app codec given actions took fs a =
+    each_of (IsSent app codec (after_actions given actions (new_cluster given)).released.bag)
+    (IsSent app codec (after_actions given (actions ++ took) (new_cluster given)).released.bag)
+    (λ bytes z. sent_on app codec (after_actions given actions (new_cluster given)).released.bag
+    (after_actions given (actions ++ took) (new_cluster given)).released.bag (λ m c. bag_more given actions took m c) bytes z) fs a
 
 -- What so many flushes say has left then
 module _ (given : Given) where

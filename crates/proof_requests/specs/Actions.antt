@@ -8,14 +8,16 @@ use Rattle.raft_node.specs.declared.given.Given.{Given}
 use Rattle.raft_answers.specs.declared.answer.Reply.{Reply}
 use Rattle.raft_answers.specs.Requests.{Open}
 use Rattle.proof_servers.specs.Servers.{Action, Flushes, Server, Step, Takes, with_step}
-use Rattle.proof_packed.specs.Stores.{Application}
+use Rattle.proof_packed.specs.Stores.{Application, Packed}
 use Rattle.raft_core.specs.proof_packed_servers.Servers.{PackedStep, step_packed}
+use Rattle.raft_core.specs.raft_packed_wire.declared.packet.PackedContent.{PackedContent}
+use Rattle.raft_core.specs.raft_packed_wire.declared.packet.PackedContent.TheVariants as content
 use Rattle.raft_core.specs.raft_packed_wire.Messages.{received as message_of}
 use Rattle.raft_core.specs.raft_packed_server.Views.{ServerView, steps_released}
 use Rattle.raft_core.specs.declared.frame.Frame.{Frame}
 use Rattle.raft_core.specs.declared.frame.Frame.TheVariants as frames
 use Rattle.raft_core.specs.declared.output.Output.{Output}
-use Rattle.raft_core.specs.Calls.{Asks, Moves, Proposes, Receives, TakesFrame, Ticks, Writes}
+use Rattle.raft_core.specs.Calls.{Asks, Moves, Proposes, Receives, TakesContent, TakesFrame, Ticks, Writes}
 use Rattle.raft_core.specs.Reads.{ReadsView}
 use Rattle.raft_core.specs.Steps.{act_of, step_taking, steps_at}
 use Rattle.raft_core.specs.Views.{CoreView}
@@ -52,14 +54,21 @@ module _ {S : Type 0} (app : Application S) where
     abbrev pub ticked : Ticks app old out new → List (PackedStep S)
     ticked t = steps_at app new.clock (map act_of t.moves)
 
-    -- of a frame: its message, or none, or moves
-    abbrev pub framed : (frame : Frame S) → TakesFrame app frame old out new → List (PackedStep S)
-    framed (frames.Packet p) (m, is, t) = step_taking old.clock (message_of app m) ∷ []
-    framed (frames.PreVote ask) t = []
-    framed (frames.PreVoteReply reply) t = steps_at app old.clock (map act_of t.moves)
+    -- of a packet: its message; or, of a part, the message whose snapshot is whole with it, or none
+    abbrev pub carried : (c : Codec S) (x : PackedContent (Packed S)) → TakesContent app c x old out new → List (PackedStep S)
+    carried c (content.Message m) t = step_taking old.clock (message_of app m) ∷ []
+    carried c (content.Part x) (inl kept) = []
+    carried c (content.Part x) (inr t) = step_taking old.clock (record { message = x.message; brought = t.snapshot }) ∷ []
+
+    -- of a frame: its packet's, or none, or moves
+    abbrev pub framed : (c : Codec S) (frame : Frame S) → TakesFrame app c frame old out new → List (PackedStep S)
+    framed c (frames.Packet p) t = carried c p.content t
+    framed c (frames.PreVote ask) t = []
+    framed c (frames.PreVoteReply reply) t = steps_at app old.clock (map act_of t.moves)
+    framed c (frames.PartReply reply) t = []
 
     abbrev pub received : (c : Codec S) (bytes : List ℕ) → Receives app c bytes old out new → List (PackedStep S)
-    received c bytes (frame, is, t) = framed frame t
+    received c bytes (frame, is, t) = framed c frame t
 
   -- of a proposal: that of a batch, or none
   abbrev pub proposed : (at : ℕ) (server : ServerView S) (old : Open) (told : List Reply) (server' : ServerView S) (new : Open) (replies : List Reply)

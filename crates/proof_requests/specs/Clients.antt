@@ -31,6 +31,7 @@ use Rattle.raft_core.specs.Views.{CoreView}
 use Rattle.proof_requests.specs.Actions.{AreSteps, Initializes, flushes, initialized, received, released, taking, ticked, written}
 use Rattle.proof_requests.specs.Answered.{IsDone, IsTrue}
 use Rattle.proof_requests.specs.Frames.{IsSent, frames_of}
+use Rattle.proof_requests.specs.Moving.{IsMoving}
 use Rattle.proof_requests.specs.Reading.{IsReadDone, StartsBare}
 use Rattle.proof_requests.specs.ReadLaws.{IsReader}
 use Rattle.proof_requests.specs.Requests.{AllPairs, ArePlaced, AreSingle, Asked, IsCore, IsMarked, Placed, Rises, Wrote, server_after}
@@ -225,6 +226,7 @@ pub record AreBeside {S : Type 0} (app : Application S) (c : Codec S) (given : G
   pub over : AllByRecursion (IsOver given actions placed s) s.done
   pub once : AreOver s.done
   pub frames : AllByRecursion (IsSent app c (after_actions given actions (new_cluster given)).released.bag) s.sent
+  pub moving : (id : ℕ) (v : CoreView S) → s.cores id ≡ Some v → IsMoving app c (after_actions given actions (new_cluster given)).released.bag v
 
 -- From no requests on, whatever servers do, they and their clients stay beside the model.
 

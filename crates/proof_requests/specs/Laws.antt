@@ -19,6 +19,7 @@ use Rattle.raft_core.specs.Views.{CoreView}
 use Rattle.proof_requests.specs.Actions.{AreSteps, Initializes, flushes, initialized, received, released, taking, ticked, written}
 use Rattle.proof_requests.specs.Answered.{AreAnswered}
 use Rattle.proof_requests.specs.Frames.{IsSent, frames_of}
+use Rattle.proof_requests.specs.Moving.{IsMoving}
 use Rattle.proof_requests.specs.Requests.{ArePlaced, Asked, IsCore, Placed, Wrote, server_after}
 
 -- a step or a flush of this server
@@ -64,10 +65,11 @@ module _ {S : Type 0} (app : Application S) (c : Codec S) where
       → (id : ℕ) (asked : List Asked) (old new : CoreView S) (out : List (Output S)) → IsCore app given actions placed id old asked
       → Releases app c position old out new → Keeps given actions placed id asked out new (flushes id (released position old))
 
-  -- the bytes of a frame are received that has left a server
+  -- the bytes of a frame are received that has left a server, as what has come of a snapshot has
   abbrev pub ReceivesSent : Given → List Action → List ℕ → CoreView S → List (Output S) → CoreView S → Type 0
   ReceivesSent given actions bytes old out new =
-      IsSent app c (after_actions given actions (new_cluster given)).released.bag bytes × Receives app c bytes old out new
+      let bag = (after_actions given actions (new_cluster given)).released.bag in
+      (IsSent app c bag bytes × IsMoving app c bag old) × Receives app c bytes old out new
 
 module _ {S : Type 0} (app : Application S) where
   -- a request that is taken waits behind the others, if its number is above all that the server gave

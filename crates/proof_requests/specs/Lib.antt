@@ -8,6 +8,7 @@ pub mod OnDisk  -- the node of the steps that are on disk
 pub mod Requests  -- requests of a server's clients beside the actions of the model
 pub mod Answered  -- when an answer is true
 pub mod Reading  -- reads that need no entry
+pub mod Moving  -- snapshots that go out and come in parts
 pub mod Frames  -- frames that leave servers
 pub mod Actions  -- which actions of the model a call takes
 pub mod Laws  -- what is promised of each call

@@ -1,5 +1,6 @@
 -- the specifications of raft_core, passed on
 pub use Rattle.raft_core.specs.Reads
+pub use Rattle.raft_core.specs.Parts
 pub use Rattle.raft_core.specs.Views
 pub use Rattle.raft_core.specs.Steps
 pub use Rattle.raft_core.specs.Frames

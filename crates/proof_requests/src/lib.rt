@@ -16,7 +16,7 @@ pub use raft_core::raft_packed_server;
 /// leaves is true: `Ok` with the entry that the request waited for, by a flush of the model; `Failed` if nothing was proposed for
 /// it, or if a server has told of another entry at its index. `Unknown` promises nothing.
 ///
-/// This takes for granted what `servers_follow` does, and that a frame that is received has left a server.
+/// This takes for granted what `servers_follow` does, and that a frame that is received has left a server, as what has come of a snapshot has.
 pub fn requests_are_kept<M: Machine>()
     ensures { RequestsAreKept M.application M.codec }
 {}

@@ -1,12 +1,14 @@
 -- What is handed out as chunks come.
 use Rattle.std.proofs.Common.{ℕ, zero, suc, ◌≡◌, ◌<◌, ◌≤◌, ◌+◌, ◌*◌, ◌⊎◌, Bool, true, false, cond, List, [], ◌∷◌, ◌++◌, length, take, drop, refl, sym, ap, subst, ◌∙◌, arith, inl, inr}
+use Rattle.std.specs.Prelude.{Option, Some, Result, Ok}
 use Rattle.std.specs.List.{AllByRecursion}
 use Rattle.std.proofs.lemmas.Bool.{cases_eq, cases_lt}
 use Rattle.std.proofs.lemmas.List.{take_all, take-take, drop-take, take-append-drop, length-take, length-drop}
 use Rattle.raft_frames.specs.Crc.{crc32c}
 use Rattle.raft_chunks.specs.declared.cursor.Title.{Title}
 use Rattle.raft_chunks.specs.Assembled.{Assembled}
-use Rattle.raft_chunks.specs.Assembly.{cursor_of, joined, nothing, wanted}
+use Rattle.raft_chunks.specs.declared.error.Refusal.{Refusal}
+use Rattle.raft_chunks.specs.Assembly.{cursor_of, joined, nothing, taken, wanted}
 use Rattle.raft_chunks.specs.Chunks.{Piece, chunk_at, same_title, title_of}
 use Rattle.raft_chunks.specs.Laws.{Arrives, AssemblesByTitle, AssemblesWhatWasSent, HasFront, IsSent, IsTitled, handed, handed_after, handed_by}
 use Rattle.raft_chunks.proofs.Steps.{Answer, Fits, finish, fits_none, joined-length, step, wanted-newer}
@@ -37,7 +39,7 @@ take_both n m xs =
 abbrev title_by : ℕ → ℕ → ℕ → Title
 title_by number len sum = record { number = number; len = len; sum = sum }
 
-same_titles : (a b : Title) → same_title a b ≡ true → a ≡ b
+pub same_titles : (a b : Title) → same_title a b ≡ true → a ≡ b
 same_titles a b h = go (cases_eq a.number b.number) (cases_eq a.len b.len) (cases_eq a.sum b.sum)
   where
     go : ((a.number ≡ b.number) ⊎ (a.number ≡ b.number → ⊥)) → ((a.len ≡ b.len) ⊎ (a.len ≡ b.len → ⊥)) → ((a.sum ≡ b.sum) ⊎ (a.sum ≡ b.sum → ⊥)) → a ≡ b
@@ -177,3 +179,32 @@ arrives (suc n) number bytes a most h front enough =
 pub snapshots_arrive : Arrives
 snapshots_arrive number bytes a most zero h front some one_more enough = absurd (omega (arith, one_more))
 snapshots_arrive number bytes a most (suc n) h front some one_more enough = arrives n number bytes a most h front (omega (arith, enough))
+
+-- ---- one chunk of a snapshot, wherever it begins
+
+abbrev handed_out : List ℕ → Result (Option (List ℕ)) Refusal
+handed_out bytes = Ok (Some bytes)
+
+same_handed : (one other : List ℕ) → handed_out one ≡ handed_out other → one ≡ other
+same_handed one other e = cc
+
+-- what is there of the snapshot stays a front of it, and what is handed out is all of it
+pub record TookPart (title : Title) (bytes : List ℕ) (a : Assembled) (r : Answer) : Type 0 where
+  pub whole : (all : List ℕ) → r.0 ≡ handed_out all → all ≡ bytes
+  pub left : (r.1 ≡ a) ⊎ ((r.1.bytes ≡ []) ⊎ ((r.1.title ≡ title) × (r.1.bytes ≡ take (length r.1.bytes) bytes)))
+
+pub part_taken : (number : ℕ) (bytes : List ℕ) (a : Assembled) (offset most : ℕ) → HasFront (title_of number bytes) bytes a
+    → TookPart (title_of number bytes) bytes a (taken a (chunk_at (record { title = title_of number bytes; offset = offset }) bytes most))
+part_taken number bytes a offset most front =
+    let title = title_of number bytes in
+    let p : Piece = chunk_at (record { title = title; offset = offset }) bytes most in
+    step (TookPart title bytes a) a p (λ r e. record { whole = λ all x. absurd cc; left = inl refl }) (λ f.
+    let there : (joined a p).bytes ≡ take (length (joined a p).bytes) bytes =
+    front_of bytes a.bytes p.bytes offset (same_title a.title title) front (f.placed ∙ wanted-newer a title f.newer) (chunk-part offset most bytes)
+    ∙ ap (λ n. take n bytes) (sym (joined-length a p f)) in
+    finish (TookPart title bytes a) (joined a p) (λ l. record { whole = λ all x. absurd cc; left = inr (inr (refl, there)) })
+    (λ l s. record {
+      whole = λ all x. sym (same_handed (joined a p).bytes all x) ∙ (there ∙ take_all (length (joined a p).bytes) bytes l);
+      left = inr (inl refl);
+    })
+    (λ l s. record { whole = λ all x. absurd cc; left = inr (inl refl) }))

@@ -33,12 +33,10 @@ use Rattle.proof_requests.proofs.proof_packed_servers_proofs.Clusters.{clusters_
 use Rattle.proof_requests.proofs.proof_packed_servers_proofs.MayAct.{runs_may}
 use Rattle.proof_requests.specs.raft_packed_server.Laws.{OpensCrashed}
 use Rattle.proof_requests.specs.raft_packed_server.Represents.{said_by}
-use Rattle.raft_packed_wire.specs.Messages.{received as received_message}
 use Rattle.proof_requests.specs.raft_core.declared.output.Output.{Output}
 use Rattle.proof_requests.specs.raft_core.declared.output.Output.TheVariants as outputs
 use Rattle.proof_requests.specs.raft_core.Calls.{Receives, Ticks}
 use Rattle.proof_requests.specs.raft_core.Laws.{read_replies_of, replies_of}
-use Rattle.proof_requests.specs.raft_core.Outputs.{packet_frame}
 use Rattle.proof_requests.specs.raft_core.Reads.{handed_after, read_replies, with_left}
 use Rattle.proof_requests.specs.raft_core.Steps.{with_steps}
 use Rattle.proof_requests.specs.raft_core.Views.{CoreView}
@@ -604,7 +602,7 @@ module _ {S : Type 0} (app : Application S) (codec : Codec S) (inverse : IsCodec
     -- the server takes steps
     pub stepped : (taken : List (PackedStep S)) (said out : List (Output S)) (new : CoreView S)
         → StayBySteps app codec c.given f.actions f.placed f.cores m.id said new taken → IsServer app codec c.given (with_steps app c.given taken own) n
-        → n.core ≡ Some new → answers_in out ≡ replies_of said ++ read_replies_of said → frames_in out ≡ frames_in said → AreQuiet out
+        → n.core ≡ Some new → answers_in out ≡ replies_of said ++ read_replies_of said → frames_in out ≡ frames_in said → AreQuiet codec out
         → Leaves m.id out c.network c.told e.network e.told → Follows app codec e
     stepped taken said out new (steps, are, b) stands now rs fs quiet leaves =
         let took : List Action = taking m.id steps in
@@ -622,9 +620,9 @@ module _ {S : Type 0} (app : Application S) (codec : Codec S) (inverse : IsCodec
         (carries_more app codec (map (packed_message app) model.released.bag) [] (frames_of c.network) (frames_in out) f.is.sent (carries_quiet app codec out quiet))))
         (subst (λ (r : Records (List Entry)). IsTold (packed_records app r) e.told) (sym done.released) (record {
           executed = leaves.executed
-              ∙ (ap (λ es. entries_told c.told ++ es) (quiet_executed out quiet) ∙ (append_nil (entries_told c.told) ∙ f.is.told.executed));
+              ∙ (ap (λ es. entries_told c.told ++ es) (quiet_executed codec out quiet) ∙ (append_nil (entries_told c.told) ∙ f.is.told.executed));
           installed = leaves.installed
-              ∙ (ap (λ ps. snapshots_told c.told ++ ps) (quiet_installed out quiet) ∙ (append_nil (snapshots_told c.told) ∙ f.is.told.installed));
+              ∙ (ap (λ ps. snapshots_told c.told ++ ps) (quiet_installed codec out quiet) ∙ (append_nil (snapshots_told c.told) ∙ f.is.told.installed));
         }))))
         (running (Some new) (sym now)) (sent_more said out new (length (f.actions ++ took)) fs leaves) (told_clients said out new took b rs leaves)
 
@@ -642,26 +640,25 @@ module _ {S : Type 0} (app : Application S) (codec : Codec S) (inverse : IsCodec
         let ps : List Proposal = call.core.requests.proposed in
         let qs : List Reply = read_replies (handed_after r.said call.core.executed) (with_left r.said.answers call.core.reads) in
         let says : r.said ≡ said_by (map (waiting_packed app) ws) = has.says ∙ ap said_by (take-map (waiting_packed app) k (model.servers m.id).waiting) in
-        let sent : frames_in out ≡ map (packet_frame codec call.core.start) r.sends.packets =
-        ap frames_in r.leaves ∙ frames_said app codec call.core.start r.said r.frames r.sends ps qs in
-        let bag : map (packed_message app) next.released.bag ≡ map (packed_message app) model.released.bag ++ map (received_message app) r.sends.packets =
-        ap (λ (q : Records (List Entry)). map (packed_message app) q.bag) done.released
-        ∙ (bag_more app ws model.released r.said says ∙ ap (λ ms. map (packed_message app) model.released.bag ++ ms) (sym r.sends.of_messages)) in
+        let sent : frames_in out ≡ frames_in r.frames =
+        ap frames_in r.leaves ∙ frames_said app codec call.core.start r.said r.frames r.sends.leave ps qs in
+        let bag : map (packed_message app) next.released.bag ≡ map (packed_message app) model.released.bag ++ r.said.bag =
+        ap (λ (q : Records (List Entry)). map (packed_message app) q.bag) done.released ∙ bag_more app ws model.released r.said says in
         follows_now (f.actions ++ took) (f.placed ++ b.more) (after_call m.id out call.next (length (f.actions ++ took)) f.cores) b.beside
         (subst (λ (x : ModelCluster). IsCluster app codec (cluster_packed app x) e) (sym (after_these took))
         (changed next done.others
         (subst (λ s. IsServer app codec c.given s n) (sym (flushes_packed app k (model.servers m.id)) ∙ sym (ap (server_packed app) done.own)) has.stands)
         (subst (λ ms. Carries app codec ms (frames_of e.network)) (sym bag)
-        (subst (Carries app codec (map (packed_message app) model.released.bag ++ map (received_message app) r.sends.packets))
+        (subst (Carries app codec (map (packed_message app) model.released.bag ++ r.said.bag))
         (sym (leaves.frames ∙ ap (λ fs. frames_of c.network ++ fs) sent))
-        (carries_more app codec (map (packed_message app) model.released.bag) (map (received_message app) r.sends.packets) (frames_of c.network) _ f.is.sent
-        (carries_said app codec call.core.start r.sends.packets r.sends.read_back))))
+        (carries_more app codec (map (packed_message app) model.released.bag) r.said.bag (frames_of c.network) (frames_in r.frames) f.is.sent
+        (carries_said app codec call.core.start r.said.bag r.frames r.sends.leave))))
         (subst (λ (q : Records (List Entry)). IsTold (packed_records app q) e.told) (sym done.released) (record {
           executed = leaves.executed
-              ∙ ((λ i. f.is.told.executed i ++ (ap executed_in r.leaves ∙ executed_said app codec call.core.start r.said r.frames r.sends ps qs) i)
+              ∙ ((λ i. f.is.told.executed i ++ (ap executed_in r.leaves ∙ executed_said app codec call.core.start r.said r.frames r.sends.leave ps qs) i)
               ∙ executed_more app ws model.released r.said says);
           installed = leaves.installed
-              ∙ ((λ i. f.is.told.installed i ++ (ap installed_in r.leaves ∙ installed_said app codec call.core.start r.said r.frames r.sends ps qs) i)
+              ∙ ((λ i. f.is.told.installed i ++ (ap installed_in r.leaves ∙ installed_said app codec call.core.start r.said r.frames r.sends.leave ps qs) i)
               ∙ installed_more app ws model.released r.said says);
         }))))
         (running (Some call.next) (sym call.now)) (sent_more out out call.next (length (f.actions ++ took)) refl leaves)
@@ -677,7 +674,7 @@ module _ {S : Type 0} (app : Application S) (codec : Codec S) (inverse : IsCodec
     initialized_follows out leaves b =
         stepped (initialized app b.core) out out b.next ((stay_beside app codec inverse).initializes c.given f.given f.actions f.placed f.cores f.beside m.id b.core b.next out (runs ∙ b.is_open) b.does)
         (subst (IsServer app codec c.given (with_steps app c.given (initialized app b.core) own)) (sym b.becomes) (is_initialized app codec c.given own m stood b.core b.next b.is_open out b.does))
-        (ap (λ (x : Machine S). x.core) b.becomes) (order_initialized app codec b.core b.next out b.does) refl (subst AreQuiet (sym b.does.0) tt) leaves
+        (ap (λ (x : Machine S). x.core) b.becomes) (order_initialized app codec b.core b.next out b.does) refl (subst (AreQuiet codec) (sym b.does.0) tt) leaves
 
     pub ticked_follows : (out : List (Output S)) → Leaves m.id out c.network c.told e.network e.told → ByCore (Ticks app) m out n → Follows app codec e
     ticked_follows out leaves b =
@@ -699,7 +696,7 @@ module _ {S : Type 0} (app : Application S) (codec : Codec S) (inverse : IsCodec
         (subst (IsServer app codec c.given (with_steps app c.given (written app codec b.core b.said b.next b.does) own)) (sym b.becomes) (is_written app codec c.given own m stood b.core b.next b.said b.is_open b.does))
         (ap (λ (x : Machine S). x.core) b.becomes ∙ handed_core (handed_in b.said))
         (ap answers_in b.leaves ∙ (answers_others b.said ∙ order_written app codec b.core b.next b.said b.does)) (ap frames_in b.leaves ∙ frames_others b.said)
-        (subst AreQuiet (sym b.leaves) (quiet_written app codec b.core b.next b.said b.does)) leaves
+        (subst (AreQuiet codec) (sym b.leaves) (quiet_written app codec b.core b.next b.said b.does)) leaves
       where
         handed_core : (h : Option Handed) → (with_handed h (record m { core = Some b.next })).core ≡ Some b.next
         handed_core None = refl
@@ -757,13 +754,13 @@ module _ {S : Type 0} (app : Application S) (codec : Codec S) (inverse : IsCodec
     nothing_left out none = subst (λ o. AllByRecursion (IsKept es) (answers_in o)) (sym none) tt
 
     -- a call of which nothing leaves that acknowledges a request
-    quiet_call : (Does : Machine S → List (Output S) → Machine S → Type 0) (out : List (Output S)) → (Does m out n → AreQuiet out) → (Does m out n → AllByRecursion (IsKept es) (read_replies_of out)) → Calls Does m out n
+    quiet_call : (Does : Machine S → List (Output S) → Machine S → Type 0) (out : List (Output S)) → (Does m out n → AreQuiet codec out) → (Does m out n → AllByRecursion (IsKept es) (read_replies_of out)) → Calls Does m out n
         → AllByRecursion (IsKept es) (answers_in out)
     quiet_call Does out quiet reads (inl rests) = nothing_left out rests.0
     quiet_call Does out quiet reads (inr (inl stop)) = nothing_left out stop.none
-    quiet_call Does out quiet reads (inr (inr done)) = quiet_kept es out (quiet done) (reads done)
+    quiet_call Does out quiet reads (inr (inr done)) = quiet_kept codec es out (quiet done) (reads done)
 
-    quiet_holds : (Does : Machine S → List (Output S) → Machine S → Type 0) (out : List (Output S)) → e.damaged ≡ c.damaged → (Does m out n → AreQuiet out) → (Does m out n → AllByRecursion (IsKept es) (read_replies_of out))
+    quiet_holds : (Does : Machine S → List (Output S) → Machine S → Type 0) (out : List (Output S)) → e.damaged ≡ c.damaged → (Does m out n → AreQuiet codec out) → (Does m out n → AllByRecursion (IsKept es) (read_replies_of out))
         → (Does m out n → HasHanded es n) → ((f : Follows app codec c) → Leaves m.id out c.network c.told e.network e.told → Does m out n → Follows app codec e)
         → Calls Does m out n → Leaves id out c.network c.told e.network e.told → Holds app codec e
     quiet_holds Does out undamaged quiet reads own follows call leaves =
@@ -789,7 +786,7 @@ module _ {S : Type 0} (app : Application S) (codec : Codec S) (inverse : IsCodec
 
     pub write_holds : (out : List (Output S)) → e.damaged ≡ c.damaged → Calls (ByWrite app codec) m out n → Leaves id out c.network c.told e.network e.told → Holds app codec e
     write_holds out undamaged call leaves =
-        quiet_holds (ByWrite app codec) out undamaged (λ b. subst AreQuiet (sym b.leaves) (quiet_written app codec b.core b.next b.said b.does))
+        quiet_holds (ByWrite app codec) out undamaged (λ b. subst (AreQuiet codec) (sym b.leaves) (quiet_written app codec b.core b.next b.said b.does))
         (λ b. subst (AllByRecursion (IsKept es)) (sym (ap read_replies_of b.leaves ∙ reads_others b.said)) (not_ok_kept es (read_replies_of b.said) ((only_rounds_tell_ok app codec).writes b.core b.next b.said b.does)))
         (λ b.
         next_handed (executed_in out) leaves.executed b.core b.next b.is_open (ap (λ (x : Machine S). x.core) b.becomes ∙ handed_core (handed_in b.said) b.next) (same_written app codec b.core b.next b.said b.does))
@@ -801,7 +798,7 @@ module _ {S : Type 0} (app : Application S) (codec : Codec S) (inverse : IsCodec
 
     -- a frame is taken
     module _ (out : List (Output S)) (bytes : List ℕ) (leaves : Leaves id out c.network c.told e.network e.told) where
-      takes_quiet : ByCore (Receives app codec bytes) m out n → AreQuiet out
+      takes_quiet : ByCore (Receives app codec bytes) m out n → AreQuiet codec out
       takes_quiet b = quiet_received app codec b.core b.next out bytes b.does
 
       takes_reads : ByCore (Receives app codec bytes) m out n → AllByRecursion (IsKept es) (read_replies_of out)
@@ -856,7 +853,7 @@ module _ {S : Type 0} (app : Application S) (codec : Codec S) (inverse : IsCodec
         next_executed b =
             let said = b.does.said in
             let reads : List Reply = read_replies (handed_after said b.core.executed) (with_left said.answers b.core.reads) in
-            let told : executed_in out ≡ map (λ x. x.entry) said.executed = ap executed_in b.does.leaves ∙ executed_said app codec b.core.start said b.does.frames b.does.sends b.core.requests.proposed reads in
+            let told : executed_in out ≡ map (λ x. x.entry) said.executed = ap executed_in b.does.leaves ∙ executed_said app codec b.core.start said b.does.frames b.does.sends.leave b.core.requests.proposed reads in
             let before : IfSome b.core.executed (λ index. HasEntryAt index (entries_told c.told)) =
             subst (λ (o : Option (CoreView S)). IfSome o (λ v. IfSome v.executed (λ index. HasEntryAt index (entries_told c.told)))) b.is_open (own_handed app codec c id place m n found was h) in
             subst (λ (o : Option ℕ). IfSome o (λ index. HasEntryAt index es)) (sym (ap (λ (v : CoreView S). v.executed) b.does.rest))
@@ -873,7 +870,7 @@ module _ {S : Type 0} (app : Application S) (codec : Codec S) (inverse : IsCodec
             let reads : List Reply = read_replies (handed_after b.does.said b.core.executed) (with_left b.does.said.answers b.core.reads) in
             subst (λ xs. AllByRecursion (IsKept xs) (answers_in out)) (sym leaves.executed)
             (answers_kept (entries_told c.told) (executed_in out) out (order_released app codec b.core b.next out b.position b.does)
-            (said_kept app codec b.core.start b.core.requests.proposed b.does.said b.does.frames b.does.sends reads out b.does.leaves)
+            (said_kept app codec b.core.start b.core.requests.proposed b.does.said b.does.frames b.does.sends.leave reads out b.does.leaves)
             (subst (λ xs. AllByRecursion (IsKept xs) (read_replies_of out)) leaves.executed (released_kept app codec es b.position b.core b.next out b.does (next_executed b))))
 
     -- nothing leaves

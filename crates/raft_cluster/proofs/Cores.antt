@@ -1,5 +1,5 @@
 -- The calls of a server's outer layer, at its machine.
-use Rattle.std.proofs.Common.{ℕ, ◌≡◌, ◌∙◌, List, [], ◌∷◌, ◌++◌, None, Some, refl, sym, ap, subst, inl, inr}
+use Rattle.std.proofs.Common.{ℕ, ◌≡◌, ◌∙◌, ⊎_elim, List, [], ◌∷◌, ◌++◌, None, Some, refl, sym, ap, subst, inl, inr}
 use Rattle.std.specs.Prelude.{Err, IfOk, Ok, OnOk, Option, Result, length, map, take}
 use Rattle.std.specs.declared.alloc.AllocError.{AllocError}
 use Rattle.std.specs.List.{AllByRecursion}
@@ -8,8 +8,12 @@ use Rattle.std.proofs.lemmas.List.{append-nil, take_at}
 use Rattle.raft_answers.specs.declared.answer.Reply.{Reply}
 use Rattle.raft_node.specs.declared.given.Given.{Given}
 use Rattle.raft_codec.specs.Codec.{Codec}
-use Rattle.proof_packed.specs.Stores.{Application}
+use Rattle.proof_packed.specs.Nodes.{PackedMessage}
+use Rattle.proof_packed.specs.Stores.{Application, Packed}
 use Rattle.proof_requests.specs.proof_packed_servers.Servers.{PackedServer, PackedStep, packed_with_step}
+use Rattle.raft_packed_wire.specs.declared.packet.PackedContent.{PackedContent}
+use Rattle.raft_packed_wire.specs.declared.packet.PackedContent.TheVariants as content
+use Rattle.raft_packed_wire.specs.Messages.{received as received_message}
 use Rattle.proof_requests.specs.raft_packed_server.declared.batch.Written.{Written}
 use Rattle.proof_requests.specs.raft_packed_server.declared.serving.Serving.{Serving}
 use Rattle.proof_requests.specs.raft_packed_server.Represents.{HandsOut}
@@ -19,15 +23,16 @@ use Rattle.proof_requests.specs.raft_core.declared.error.FrameError.TheVariants 
 use Rattle.proof_requests.specs.raft_core.declared.frame.Frame.{Frame}
 use Rattle.proof_requests.specs.raft_core.declared.frame.Frame.TheVariants as frames
 use Rattle.proof_requests.specs.raft_core.declared.output.Output.{Output}
-use Rattle.proof_requests.specs.raft_core.Calls.{Asks, IsRefusal, Proposes, Receives, TakesFrame, Ticks, Writes, WritesNow, appended}
+use Rattle.proof_requests.specs.raft_core.Calls.{AnswersAfter, Asks, IsRefusal, Proposes, Receives, TakesContent, TakesFrame, Ticks, Writes, WritesNow, appended}
+use Rattle.proof_requests.specs.raft_core.Calls.{reply_to}
 use Rattle.proof_requests.specs.raft_core.Laws.{IsNotOk, replies_of}
 use Rattle.proof_requests.specs.raft_core.Outputs.{lost_replies, overdue_replies, reads_out, replies_out}
-use Rattle.proof_requests.specs.raft_core.Reads.{failed_replies, read_replies, refused_left, refused_replies, with_heard}
+use Rattle.proof_requests.specs.raft_core.Reads.{ReadsView, failed_replies, read_replies, refused_left, refused_replies, with_heard}
 use Rattle.proof_requests.specs.raft_core.Steps.{IsWithAllTaken, with_steps}
 use Rattle.proof_requests.specs.raft_core.Views.{CoreView}
 use Rattle.proof_requests.proofs.raft_core_proofs.Told.{before, before_read, behind_read, none_appended, none_asked, none_read}
 use Rattle.proof_requests.proofs.raft_core_proofs.Unsaid.{only_releases_tell_ok}
-use Rattle.proof_requests.specs.Actions.{Initializes, asking, framed, initialized, proposed, received, released, ticked, written}
+use Rattle.proof_requests.specs.Actions.{Initializes, asking, carried, framed, initialized, proposed, received, released, ticked, written}
 use Rattle.raft_cluster.specs.declared.machine.Done.{Done}
 use Rattle.raft_cluster.specs.declared.machine.Handed.{Handed}
 use Rattle.raft_cluster.specs.declared.machine.Machine.{Machine}
@@ -35,7 +40,7 @@ use Rattle.raft_cluster.specs.Calls.{ByFlush, ByWrite, Calls, Refuses, Rests, St
 use Rattle.raft_cluster.specs.Disks.{bytes_of, flushed}
 use Rattle.raft_cluster.specs.Outputs.{AreQuiet, handed_in, others_in}
 use Rattle.raft_cluster.specs.Servers.{IsServer}
-use Rattle.raft_cluster.proofs.Leaving.{handed_written, others_written, quiet_answers, quiet_granted, quiet_ticks}
+use Rattle.raft_cluster.proofs.Leaving.{handed_written, others_written, quiet_answers, quiet_granted, quiet_part_reply, quiet_parts, quiet_ticks}
 use Rattle.raft_cluster.proofs.Machines.{handed, told}
 use Rattle.raft_cluster.proofs.Servers.{Flushed, flushed_too, left, recored, steps_taken, wrote}
 
@@ -43,9 +48,9 @@ module _ {S : Type 0} (app : Application S) (codec : Codec S) where
   -- ---- what leaves before a record is on disk
 
   module _ (core new : CoreView S) (out : List (Output S)) where
-    pub quiet_ticked : Ticks app core out new → AreQuiet out
+    pub quiet_ticked : Ticks app core out new → AreQuiet codec out
     quiet_ticked t =
-        subst AreQuiet (sym t.answers.leaves) (quiet_ticks S t.asks replies reads
+        subst (AreQuiet codec) (sym t.answers.leaves) (quiet_ticks codec t.asks replies reads
         (subst (AllByRecursion IsNotOk) (ap replies_of t.answers.leaves ∙ behind_read (map _ t.asks) replies reads (none_asked S t.asks)) ((only_releases_tell_ok app codec).ticks core new out t)))
       where
         replies : List Reply
@@ -54,28 +59,47 @@ module _ {S : Type 0} (app : Application S) (codec : Codec S) where
         reads : List Reply
         reads = refused_replies t.answers.gone core.reads ++ failed_replies t.upto (refused_left t.answers.gone core.reads)
 
-    quiet_both : (rs qs : List Reply) → out ≡ replies_out rs ++ reads_out qs → AllByRecursion IsNotOk (replies_of out) → AreQuiet out
-    quiet_both rs qs same unsaid =
-        subst AreQuiet (sym same) (quiet_answers S rs qs (subst (AllByRecursion IsNotOk) (ap replies_of same ∙ before rs (reads_out qs) (none_read S qs)) unsaid))
+    quiet_both : (others : List (Output S)) (rs qs : List Reply) → others ≡ replies_out rs ++ reads_out qs
+        → AllByRecursion IsNotOk (replies_of others) → AreQuiet codec others
+    quiet_both others rs qs same unsaid =
+        subst (AreQuiet codec) (sym same) (quiet_answers codec rs qs (subst (AllByRecursion IsNotOk) (ap replies_of same ∙ before rs (reads_out qs) (none_read S qs)) unsaid))
 
-    pub quiet_received : (bytes : List ℕ) → Receives app codec bytes core out new → AreQuiet out
+    pub quiet_received : (bytes : List ℕ) → Receives app codec bytes core out new → AreQuiet codec out
     quiet_received bytes r = go r.0 r.2
       where
-        go : (frame : Frame S) → TakesFrame app frame core out new → AreQuiet out
-        go (frames.Packet p) t =
-            quiet_both (lost_replies t.2.answers.lost core.requests)
-            (refused_replies t.2.answers.gone (with_heard t.0.message core.reads) ++ read_replies core.executed (refused_left t.2.answers.gone (with_heard t.0.message core.reads))) t.2.answers.leaves
-            ((only_releases_tell_ok app codec).receives bytes core new out r)
-        go (frames.PreVote ask) t = subst AreQuiet (sym t.leaves) (quiet_granted S t.replies)
-        go (frames.PreVoteReply reply) t = subst AreQuiet (sym t.leaves) tt
+        unsaid : AllByRecursion IsNotOk (replies_of out)
+        unsaid = (only_releases_tell_ok app codec).receives bytes core new out r
+
+        message : (m : PackedMessage S) (others : List (Output S)) → AllByRecursion IsNotOk (replies_of others)
+            → AnswersAfter core.executed core.requests (with_heard m.message core.reads) others new.requests new.reads → AreQuiet codec others
+        message m others told a =
+            let heard : ReadsView = with_heard m.message core.reads in
+            quiet_both others (lost_replies a.lost core.requests)
+            (refused_replies a.gone heard ++ read_replies core.executed (refused_left a.gone heard)) a.leaves told
+
+        part : (x : PackedContent (Packed S)) → TakesContent app codec x core out new → AreQuiet codec out
+        part (content.Message m) t = message (received_message app m) out unsaid t.answers
+        part (content.Part x) (inl k) = subst (AreQuiet codec) (sym k.leaves) (quiet_part_reply codec (reply_to x core k.comes) [] tt)
+        part (content.Part x) (inr t) =
+            subst (AreQuiet codec) (sym t.leaves)
+            (quiet_part_reply codec (reply_to x core t.comes) t.others
+            (message (record { message = x.message; brought = t.snapshot }) t.others
+            (subst (AllByRecursion IsNotOk) (ap replies_of t.leaves) unsaid) t.takes.answers))
+
+        go : (frame : Frame S) → TakesFrame app codec frame core out new → AreQuiet codec out
+        go (frames.Packet p) t = part p.content t
+        go (frames.PreVote ask) t = subst (AreQuiet codec) (sym t.leaves) (quiet_granted codec t.replies)
+        go (frames.PreVoteReply reply) t = subst (AreQuiet codec) (sym t.leaves) tt
+        go (frames.PartReply reply) t =
+            ⊎_elim (λ none. subst (AreQuiet codec) (sym none) tt) (λ q. quiet_parts codec core.start q.0 out q.2) t.leaves
 
     others_now : (w : WritesNow app codec core out new) → others_in out ≡ replies_out w.replies ++ reads_out w.refused
     others_now w = ap others_in w.leaves ∙ others_written S w.replies w.refused w.written
 
-    pub quiet_written : Writes app codec core out new → AreQuiet (others_in out)
-    quiet_written (inl none) = subst (λ o. AreQuiet (others_in o)) (sym none.0) tt
+    pub quiet_written : Writes app codec core out new → AreQuiet codec (others_in out)
+    quiet_written (inl none) = subst (λ (o : List (Output S)). AreQuiet codec (others_in o)) (sym none.0) tt
     quiet_written (inr w) =
-        subst AreQuiet (sym (others_now w)) (quiet_answers S w.replies w.refused
+        subst (AreQuiet codec) (sym (others_now w)) (quiet_answers codec w.replies w.refused
         (subst (AllByRecursion IsNotOk) (ap replies_of w.leaves ∙ before_read w.replies w.refused (appended w.written) (none_appended S w.written)) ((only_releases_tell_ok app codec).writes core new out (inr w))))
 
     -- ---- up to which index entries were handed out
@@ -89,8 +113,14 @@ module _ {S : Type 0} (app : Application S) (codec : Codec S) where
     pub same_received : (bytes : List ℕ) → Receives app codec bytes core out new → new.executed ≡ core.executed
     same_received bytes r = go r.0 r.2
       where
-        go : (frame : Frame S) → TakesFrame app frame core out new → new.executed ≡ core.executed
-        go (frames.Packet p) t = ap (λ (v : CoreView S). v.executed) t.2.rest
+        part : (x : PackedContent (Packed S)) → TakesContent app codec x core out new → new.executed ≡ core.executed
+        part (content.Message m) t = ap (λ (v : CoreView S). v.executed) t.rest
+        part (content.Part x) (inl k) = ap (λ (v : CoreView S). v.executed) k.rest
+        part (content.Part x) (inr t) = ap (λ (v : CoreView S). v.executed) t.takes.rest
+
+        go : (frame : Frame S) → TakesFrame app codec frame core out new → new.executed ≡ core.executed
+        go (frames.Packet p) t = part p.content t
+        go (frames.PartReply reply) t = ap (λ (v : CoreView S). v.executed) t.rest
         go (frames.PreVote ask) t = ap (λ (v : CoreView S). v.executed) t.rest
         go (frames.PreVoteReply reply) t = ap (λ (v : CoreView S). v.executed) t.moved.rest
 
@@ -120,11 +150,20 @@ module _ {S : Type 0} (app : Application S) (codec : Codec S) where
     pub is_ticked : (out : List (Output S)) (t : Ticks app core out new) → IsServer app codec given (with_steps app given (ticked app core out new t) s) next
     is_ticked out t = at_once (ticked app core out new t) t.takes.taken t.takes.given (ap (λ (v : CoreView S). v.id) t.rest)
 
-    is_framed : (out : List (Output S)) (frame : Frame S) (t : TakesFrame app frame core out new) → IsServer app codec given (with_steps app given (framed app core out new frame t) s) next
-    is_framed out (frames.Packet p) (x, has, t) = at_once (framed app core out new (frames.Packet p) (x, has, t)) t.takes.taken t.takes.given (ap (λ (v : CoreView S). v.id) t.rest)
+    is_carried : (out : List (Output S)) (x : PackedContent (Packed S)) (t : TakesContent app codec x core out new)
+        → IsServer app codec given (with_steps app given (carried app core out new codec x t) s) next
+    is_carried out (content.Message m) t = at_once (carried app core out new codec (content.Message m) t) t.takes.taken t.takes.given (ap (λ (v : CoreView S). v.id) t.rest)
+    is_carried out (content.Part x) (inl k) = idle (ap (λ (v : CoreView S). v.server) k.rest) (ap (λ (v : CoreView S). v.id) k.rest)
+    is_carried out (content.Part x) (inr t) =
+        at_once (carried app core out new codec (content.Part x) (inr t)) t.takes.takes.taken t.takes.takes.given (ap (λ (v : CoreView S). v.id) t.takes.rest)
+
+    is_framed : (out : List (Output S)) (frame : Frame S) (t : TakesFrame app codec frame core out new)
+        → IsServer app codec given (with_steps app given (framed app core out new codec frame t) s) next
+    is_framed out (frames.Packet p) t = is_carried out p.content t
+    is_framed out (frames.PartReply reply) t = idle (ap (λ (v : CoreView S). v.server) t.rest) (ap (λ (v : CoreView S). v.id) t.rest)
     is_framed out (frames.PreVote ask) t = idle (ap (λ (v : CoreView S). v.server) t.rest) (ap (λ (v : CoreView S). v.id) t.rest)
     is_framed out (frames.PreVoteReply reply) t =
-        at_once (framed app core out new (frames.PreVoteReply reply) t) t.moved.takes.taken t.moved.takes.given (ap (λ (v : CoreView S). v.id) t.moved.rest)
+        at_once (framed app core out new codec (frames.PreVoteReply reply) t) t.moved.takes.taken t.moved.takes.given (ap (λ (v : CoreView S). v.id) t.moved.rest)
 
     pub is_received : (bytes : List ℕ) (out : List (Output S)) (r : Receives app codec bytes core out new) → IsServer app codec given (with_steps app given (received app core out new codec bytes r) s) next
     is_received bytes out (frame, has, t) = is_framed out frame t
@@ -257,7 +296,7 @@ module _ {S : Type 0} where
     refusing Does errors.TooLarge same r = inl (still (same tt) r.0 r.1)
     refusing Does (errors.Decode e) same r = inl (still (same tt) r.0 r.1)
     refusing Does (errors.Misdirected to) same r = inl (still (same tt) r.0 r.1)
-    refusing Does errors.Chunk same r = inl (still (same tt) r.0 r.1)
+    refusing Does (errors.Stale term) same r = inl (still (same tt) r.0 r.1)
     refusing Does (errors.TermJump term own) same r = inl (still (same tt) r.0 r.1)
     refusing Does errors.Busy same r = inl (still (same tt) r.0 r.1)
 

@@ -1,20 +1,21 @@
 -- The messages in frames that leave.
-use Rattle.std.proofs.Common.{ℕ, ◌≡◌, ◌∙◌, List, [], ◌∷◌, ◌++◌, Option, None, Some, refl, ap}
-use Rattle.std.specs.Prelude.{map}
+use Rattle.std.proofs.Common.{ℕ, ◌≡◌, ◌∙◌, List, [], ◌∷◌, ◌++◌, Option, None, Some, refl, sym, ap, subst, inl, inr}
+use Rattle.std.specs.Prelude.{◌⊎◌}
 use Rattle.std.specs.List.{flat_map}
 use Rattle.std.specs.Option.{option_to_list}
 use Rattle.std.proofs.lemmas.Grind.{flat_map-append}
 use Rattle.raft_codec.specs.Codec.{Codec}
 use Rattle.proof_packed.specs.Nodes.{PackedMessage}
-use Rattle.proof_packed.specs.Stores.{Application, Packed}
-use Rattle.raft_packed_wire.specs.declared.packet.SentMessage.{SentMessage}
-use Rattle.raft_packed_wire.specs.Messages.{received}
+use Rattle.proof_packed.specs.Stores.{Application}
 use Rattle.proof_requests.specs.raft_core.declared.output.Output.{Output}
 use Rattle.proof_requests.specs.raft_core.declared.output.Output.TheVariants as outputs
-use Rattle.proof_requests.specs.raft_core.Outputs.{AreReadBack, packet_frame}
-use Rattle.raft_cluster.specs.Clusters.{AreOf, Carries}
+use Rattle.proof_requests.specs.raft_core.Outputs.{LeaveAll, LeavesInParts, LeavesWhole}
+use Rattle.proof_requests.specs.raft_core.Parts.{outgoing_of}
+use Rattle.raft_cluster.specs.Clusters.{AreAllBut, AreOf, Carries}
 use Rattle.proof_requests.specs.Frames.{frames_of as frames_in}
+use Rattle.proof_requests.proofs.Sent.{frames_more}
 use Rattle.raft_cluster.specs.Outputs.{AreQuiet}
+use Rattle.raft_cluster.proofs.Leaving.{quiet_parts}
 
 module _ {S : Type 0} (app : Application S) (codec : Codec S) where
   pub carries_none : Carries app codec [] []
@@ -27,17 +28,24 @@ module _ {S : Type 0} (app : Application S) (codec : Codec S) where
   of_more (x ∷ xs) ys [] gs a b = absurd a
   of_more (x ∷ xs) ys (f ∷ fs) gs a b = (a.0, of_more xs ys fs gs a.1 b)
 
+  all_but_both : (sent more bag bags : List (PackedMessage S)) → AreAllBut app codec sent bag → AreAllBut app codec more bags
+      → AreAllBut app codec (sent ++ more) (bag ++ bags)
+  all_but_both sent more [] bags a b = subst (λ (xs : List (PackedMessage S)). AreAllBut app codec (xs ++ more) bags) (sym a) b
+  all_but_both sent more (m ∷ bag) bags (inl (brings, a)) b = inl (brings, all_but_both sent more bag bags a b)
+  all_but_both sent more (m ∷ bag) bags (inr (rest, is, a)) b = inr (rest ++ more, ap (λ xs. xs ++ more) is, all_but_both rest more bag bags a b)
+
   -- more frames leave
   pub carries_more : (bag more : List (PackedMessage S)) (fs gs : List (List ℕ)) → Carries app codec bag fs → Carries app codec more gs
       → Carries app codec (bag ++ more) (fs ++ gs)
   carries_more bag more fs gs a b = record {
     carried = a.carried ++ b.carried;
     each = of_more a.carried b.carried fs gs a.each b.each;
-    messages = flat_map-append option_to_list a.carried b.carried ∙ (λ i. a.messages i ++ b.messages i);
+    messages = subst (λ (ms : List (PackedMessage S)). AreAllBut app codec ms (bag ++ more)) (sym (flat_map-append option_to_list a.carried b.carried))
+        (all_but_both (flat_map option_to_list a.carried) (flat_map option_to_list b.carried) bag more a.messages b.messages);
   }
 
   -- what leaves before a record is on disk has no message
-  pub carries_quiet : (out : List (Output S)) → AreQuiet out → Carries app codec [] (frames_in out)
+  pub carries_quiet : (out : List (Output S)) → AreQuiet codec out → Carries app codec [] (frames_in out)
   carries_quiet [] q = carries_none
   carries_quiet (outputs.Send to bytes ∷ out) q =
       (let rest = carries_quiet out q.1 in record { carried = None ∷ rest.carried; each = (q.0, rest.each); messages = rest.messages })
@@ -47,13 +55,24 @@ module _ {S : Type 0} (app : Application S) (codec : Codec S) where
   carries_quiet (outputs.Reply r ∷ out) q = carries_quiet out q.1
   carries_quiet (outputs.Read r ∷ out) q = carries_quiet out q.1
 
-  pub carries_said : (start : ℕ) (ms : List (SentMessage (Packed S))) → AreReadBack codec start ms
-      → Carries app codec (map (received app) ms) (map (packet_frame codec start) ms)
-  carries_said start [] b = carries_none
-  carries_said start (m ∷ ms) b =
-      let rest = carries_said start ms b.1 in
-      record {
-        carried = Some (received app m) ∷ rest.carried;
-        each = (record { start = start; sent = m; brings = refl; fits = b.0; is = refl }, rest.each);
-        messages = ap (λ xs. received app m ∷ xs) rest.messages;
-      }
+  -- a message leaves whole, or in parts
+  one_carried : (start : ℕ) (m : PackedMessage S) (out : List (Output S)) → LeavesWhole app codec start m out ⊎ LeavesInParts app codec start m out
+      → Carries app codec (m ∷ []) (frames_in out)
+  one_carried start m out (inl w) =
+      subst (λ (o : List (Output S)). Carries app codec (m ∷ []) (frames_in o)) (sym w.leaves)
+      (record {
+        carried = Some m ∷ [];
+        each = (record { start = start; sent = w.packet; brings = w.of_message; fits = w.fits; is = refl }, tt);
+        messages = inr ([], refl, refl);
+      })
+  one_carried start m out (inr p) =
+      let rest : Carries app codec [] (frames_in out) = carries_quiet out (quiet_parts codec start (outgoing_of codec m) out p.parts) in
+      record { carried = rest.carried; each = rest.each; messages = inl (p.brings, rest.messages) }
+
+  pub carries_said : (start : ℕ) (ms : List (PackedMessage S)) (out : List (Output S)) → LeaveAll app codec start ms out
+      → Carries app codec ms (frames_in out)
+  carries_said start [] out h = subst (λ (o : List (Output S)). Carries app codec [] (frames_in o)) (sym h) carries_none
+  carries_said start (m ∷ ms) out (front, rest, is, one, others) =
+      subst (λ (o : List (Output S)). Carries app codec (m ∷ ms) (frames_in o)) (sym is)
+      (subst (Carries app codec (m ∷ ms)) (sym (frames_more front rest))
+      (carries_more (m ∷ []) ms (frames_in front) (frames_in rest) (one_carried start m front one) (carries_said start ms rest others)))

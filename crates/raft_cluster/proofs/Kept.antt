@@ -1,5 +1,5 @@
 -- An answer that acknowledges a request names the index of an entry that was executed.
-use Rattle.std.proofs.Common.{ℕ, ◌≡◌, ◌∙◌, ⊎_elim, Bool, true, false, List, [], ◌∷◌, ◌++◌, refl, sym, ap, subst, arith}
+use Rattle.std.proofs.Common.{ℕ, ◌≡◌, ◌∙◌, ⊎_elim, Bool, true, false, List, [], ◌∷◌, ◌++◌, inl, inr, refl, sym, ap, subst, arith}
 use Rattle.std.specs.Prelude.{Contains, IfSome, None, Option, Some, map, nat_eq, take, if◌then◌else◌}
 use Rattle.std.specs.List.{AllByRecursion, take_while}
 use Rattle.std.proofs.lemmas.List.Elements.{Contains-append_left, Contains-append_right}
@@ -14,19 +14,22 @@ use Rattle.raft_store.specs.declared.entry.Entry.{Entry}
 use Rattle.raft_codec.specs.Codec.{Codec}
 use Rattle.proof_packed.specs.Nodes.{PackedInstalled, PackedMessage, PackedRecords}
 use Rattle.proof_packed.specs.Stores.{Application, Packed}
-use Rattle.raft_packed_wire.specs.declared.packet.SentMessage.{SentMessage}
+use Rattle.raft_packed_wire.specs.declared.packet.PackedContent.{PackedContent}
+use Rattle.raft_packed_wire.specs.declared.packet.PackedContent.TheVariants as content
 use Rattle.raft_packed_wire.specs.Messages.{received}
 use Rattle.proof_requests.specs.raft_core.declared.output.Output.{Output}
 use Rattle.proof_requests.specs.raft_core.declared.output.Output.TheVariants as outputs
 use Rattle.proof_requests.specs.raft_core.declared.frame.Frame.TheVariants as frames
 use Rattle.proof_requests.specs.raft_core.declared.reads.Reader.{Reader}
-use Rattle.proof_requests.specs.raft_core.Calls.{Receives, Releases}
+use Rattle.proof_requests.specs.raft_core.Calls.{Receives, Releases, TakesContent, TakesMessage}
 use Rattle.proof_requests.specs.raft_core.Laws.{IsNotOk, read_replies_of, replies_of}
-use Rattle.proof_requests.specs.raft_core.Outputs.{Sends, executed_outputs, install, reads_out, replies_out, said_outputs, sent}
+use Rattle.proof_requests.specs.raft_core.Outputs.{LeaveAll, executed_outputs, install, reads_out, replies_out, said_outputs}
+use Rattle.proof_requests.specs.raft_core.Parts.{assembled}
 use Rattle.proof_requests.specs.raft_core.Reads.{ReadsView, count_over, executed_after, handed_after, read_replies, refused_left, refused_replies, told, with_heard, with_left}
 use Rattle.proof_requests.specs.raft_core.Views.{CoreView}
-use Rattle.proof_requests.proofs.raft_core_proofs.ReadsTold.{none_granted, told_by_message, told_by_release}
-use Rattle.proof_requests.proofs.raft_core_proofs.Told.{none_read, replies_are, replies_more}
+use Rattle.proof_requests.proofs.raft_core_proofs.ReadsTold.{none_granted, none_went, told_by_message, told_by_release}
+use Rattle.proof_requests.proofs.raft_core_proofs.Sending.{messages_send}
+use Rattle.proof_requests.proofs.raft_core_proofs.Told.{none_read, none_sent, replies_are, replies_more}
 use Rattle.proof_clients.proofs.Sequences.{first_or}
 use Rattle.proof_clients.proofs.Slots.{here, there}
 use Rattle.proof_requests.proofs.Lists.{none_in}
@@ -67,14 +70,14 @@ nothing_kept es (answers.NotLeader leader) never = tt
 nothing_kept es answers.Unknown never = tt
 
 -- of requests none acknowledges anything
-pub quiet_kept : {S : Type 0} (es : List Entry) (out : List (Output S)) → AreQuiet out → AreKept es (read_replies_of out) → AreKept es (answers_in out)
-quiet_kept es [] q k = tt
-quiet_kept es (outputs.Send to bytes ∷ out) q k = quiet_kept es out q.1 k
-quiet_kept es (outputs.Append bytes end ∷ out) q k = absurd q.0
-quiet_kept es (outputs.Install xs ∷ out) q k = absurd q.0
-quiet_kept es (outputs.Execute e ∷ out) q k = absurd q.0
-quiet_kept es (outputs.Reply r ∷ out) q k = (nothing_kept es r.answer q.0, quiet_kept es out q.1 k)
-quiet_kept es (outputs.Read r ∷ out) q k = (k.0, quiet_kept es out q.1 k.1)
+pub quiet_kept : {S : Type 0} (codec : Codec S) (es : List Entry) (out : List (Output S)) → AreQuiet codec out → AreKept es (read_replies_of out) → AreKept es (answers_in out)
+quiet_kept codec es [] q k = tt
+quiet_kept codec es (outputs.Send to bytes ∷ out) q k = quiet_kept codec es out q.1 k
+quiet_kept codec es (outputs.Append bytes end ∷ out) q k = absurd q.0
+quiet_kept codec es (outputs.Install xs ∷ out) q k = absurd q.0
+quiet_kept codec es (outputs.Execute e ∷ out) q k = absurd q.0
+quiet_kept codec es (outputs.Reply r ∷ out) q k = (nothing_kept es r.answer q.0, quiet_kept codec es out q.1 k)
+quiet_kept codec es (outputs.Read r ∷ out) q k = (k.0, quiet_kept codec es out q.1 k.1)
 
 -- Reads that need no entry
 
@@ -98,14 +101,31 @@ over_kept es (Some index) r h = all (take (count_over index r.rounds) r.readers)
     all [] = tt
     all (x ∷ xs) = (h, all xs)
 
+-- those that are told when a message is taken
+message_kept : {S : Type 0} (app : Application S) (codec : Codec S) (es : List Entry) (m : PackedMessage S) (core new : CoreView S)
+    (out : List (Output S)) → IfSome core.executed (λ index. HasEntryAt index es) → TakesMessage app m core out new → AreKept es (read_replies_of out)
+message_kept app codec es m core new out h t =
+    let heard : ReadsView = with_heard m.message core.reads in
+    let mid : ReadsView = refused_left t.answers.gone heard in
+    subst (AreKept es) (sym (told_by_message app codec m core new out t))
+    (kept_more es (refused_replies t.answers.gone heard) (read_replies core.executed mid) (refused_kept es t.answers.gone heard)
+    (over_kept es core.executed mid h))
+
+content_kept : {S : Type 0} (app : Application S) (codec : Codec S) (es : List Entry) (core new : CoreView S) (out : List (Output S))
+    → IfSome core.executed (λ index. HasEntryAt index es) → (x : PackedContent (Packed S)) → TakesContent app codec x core out new
+    → AreKept es (read_replies_of out)
+content_kept app codec es core new out h (content.Message m) t = message_kept app codec es (received app m) core new out h t
+content_kept app codec es core new out h (content.Part x) (inl k) = subst (AreKept es) (sym (ap read_replies_of k.leaves)) tt
+content_kept app codec es core new out h (content.Part x) (inr t) =
+    subst (AreKept es) (sym (ap read_replies_of t.leaves))
+    (message_kept app codec es (record { message = x.message; brought = t.snapshot }) (record core { incoming = assembled t.comes }) new t.others h t.takes)
+
 -- those that are told when a frame comes
 pub received_kept : {S : Type 0} (app : Application S) (codec : Codec S) (es : List Entry) (core new : CoreView S) (out : List (Output S)) (bytes : List ℕ)
     → IfSome core.executed (λ index. HasEntryAt index es) → Receives app codec bytes core out new → AreKept es (read_replies_of out)
-received_kept app codec es core new out bytes h (frames.Packet p, is, (m, has, t)) =
-    let heard : ReadsView = with_heard m.message core.reads in
-    let mid : ReadsView = refused_left t.answers.gone heard in
-    subst (AreKept es) (sym (told_by_message app codec (received app m) core new out t))
-    (kept_more es (refused_replies t.answers.gone heard) (read_replies core.executed mid) (refused_kept es t.answers.gone heard) (over_kept es core.executed mid h))
+received_kept app codec es core new out bytes h (frames.Packet p, is, t) = content_kept app codec es core new out h p.content t
+received_kept {S} app codec es core new out bytes h (frames.PartReply reply, is, t) =
+    subst (AreKept es) (sym (none_went codec core.start core.outgoing out t.leaves)) tt
 received_kept {S} app codec es core new out bytes h (frames.PreVote ask, is, t) = subst (AreKept es) (sym (ap read_replies_of t.leaves ∙ none_granted S t.replies)) tt
 received_kept app codec es core new out bytes h (frames.PreVoteReply reply, is, t) = subst (AreKept es) (sym (ap read_replies_of t.leaves)) tt
 
@@ -166,22 +186,18 @@ executed_kept S (e ∷ es) ps =
     (kept_more (e ∷ es) now (replies_of later) (settled_kept e es (take_while (waits_upto e.log_id.index) ps))
     (kept_right (e ∷ []) es (replies_of later) (executed_kept S es (settled_left e.log_id.index ps))))
 
-none_sent : {S : Type 0} (codec : Codec S) (start : ℕ) (ms : List (SentMessage (Packed S))) → replies_of (map (sent codec start) ms) ≡ []
-none_sent codec start [] = refl
-none_sent codec start (m ∷ ms) = none_sent codec start ms
-
 none_install : {S : Type 0} (xs : List (PackedInstalled S)) → replies_of (map install xs) ≡ []
 none_install [] = refl
 none_install (x ∷ xs) = none_install xs
 
 -- what steps say, and answers to reads
 pub said_kept : {S : Type 0} (app : Application S) (codec : Codec S) (start : ℕ) (ps : List Proposal) (said : PackedRecords S) (frames : List (Output S))
-    → Sends app codec start said.bag frames → (qs : List Reply) (out : List (Output S)) → out ≡ said_outputs frames said ps ++ reads_out qs
+    → LeaveAll app codec start said.bag frames → (qs : List Reply) (out : List (Output S)) → out ≡ said_outputs frames said ps ++ reads_out qs
     → AreKept (executed_in out) (replies_of out)
-said_kept {S} app codec start ps said frames sends qs out leaves =
+said_kept {S} app codec start ps said frames leave qs out leaves =
     let es = map (λ (x : Executed). x.entry) said.executed in
     let last : List (Output S) = executed_outputs es ps in
-    let silent : replies_of frames ≡ [] = ap replies_of sends.leaves ∙ none_sent codec start sends.packets in
+    let silent : replies_of frames ≡ [] = none_sent frames (messages_send app codec start said.bag frames leave) in
     let said_is : replies_of (said_outputs frames said ps) ≡ replies_of last =
     replies_more frames (map install said.installed ++ last)
     ∙ ((λ i. silent i ++ (replies_more (map install said.installed) last ∙ ap (λ rs. rs ++ replies_of last) (none_install said.installed)) i)) in
@@ -189,7 +205,7 @@ said_kept {S} app codec start ps said frames sends qs out leaves =
     ap replies_of leaves
     ∙ (replies_more (said_outputs frames said ps) (reads_out qs)
     ∙ ((λ i. said_is i ++ none_read S qs i) ∙ append_nil (replies_of last))) in
-    subst (λ xs. AreKept xs (replies_of out)) (sym (ap executed_in leaves ∙ executed_said app codec start said frames sends ps qs))
+    subst (λ xs. AreKept xs (replies_of out)) (sym (ap executed_in leaves ∙ executed_said app codec start said frames leave ps qs))
     (subst (AreKept es) (sym same) (executed_kept S es ps))
   where
     append_nil : (rs : List Reply) → rs ++ [] ≡ rs

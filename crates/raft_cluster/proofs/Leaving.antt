@@ -1,5 +1,5 @@
 -- What leaves a server, kind by kind.
-use Rattle.std.proofs.Common.{ℕ, ◌≡◌, ◌∙◌, List, [], ◌∷◌, ◌++◌, None, Some, refl, ap, inl, inr}
+use Rattle.std.proofs.Common.{ℕ, ◌≡◌, ◌∙◌, List, [], ◌∷◌, ◌++◌, None, Some, refl, sym, ap, subst, inl, inr}
 use Rattle.std.specs.Prelude.{Option, map}
 use Rattle.std.specs.List.{AllByRecursion, flat_map}
 use Rattle.std.specs.Option.{option_map, option_to_list}
@@ -10,34 +10,36 @@ use Rattle.raft_answers.specs.Answers.{settled_left, settled_replies}
 use Rattle.raft_node.specs.declared.record.Executed.{Executed}
 use Rattle.raft_store.specs.declared.entry.Entry.{Entry}
 use Rattle.raft_codec.specs.Codec.{Codec}
-use Rattle.proof_packed.specs.Nodes.{PackedInstalled, PackedMessage, PackedRecords}
-use Rattle.proof_packed.specs.Stores.{Application, Packed}
-use Rattle.raft_packed_wire.specs.declared.packet.SentMessage.{SentMessage}
+use Rattle.proof_packed.specs.Nodes.{PackedInstalled, PackedRecords}
+use Rattle.proof_packed.specs.Stores.{Application}
 use Rattle.proof_requests.specs.raft_packed_server.declared.batch.Written.{Written}
+use Rattle.proof_requests.specs.raft_core.declared.frame.PartReply.{PartReply}
 use Rattle.proof_requests.specs.raft_core.declared.frame.PreVote.{PreVote}
 use Rattle.proof_requests.specs.raft_core.declared.frame.PreVoteReply.{PreVoteReply}
 use Rattle.proof_requests.specs.raft_core.declared.output.Output.{Output}
 use Rattle.proof_requests.specs.raft_core.declared.output.Output.TheVariants as outputs
 use Rattle.proof_requests.specs.raft_core.Calls.{append, appended}
-use Rattle.proof_requests.specs.raft_core.Frames.{asked, granted}
+use Rattle.proof_requests.specs.raft_core.Frames.{answered, asked, granted}
 use Rattle.proof_requests.specs.raft_core.Laws.{IsNotOk}
-use Rattle.proof_requests.specs.raft_core.Outputs.{Sends, executed_outputs, install, packet_frame, reads_out, replies_out, said_outputs, sent}
+use Rattle.proof_requests.specs.raft_core.Outputs.{LeaveAll, executed_outputs, install, reads_out, replies_out, said_outputs}
+use Rattle.proof_requests.specs.raft_core.Parts.{AreParts, Outgoing}
+use Rattle.proof_requests.proofs.raft_core_proofs.Sending.{AreSends, messages_send}
 use Rattle.proof_requests.specs.Frames.{frames_of as frames_in}
 use Rattle.proof_requests.proofs.Sent.{frames_more, no_frames}
-use Rattle.raft_cluster.specs.Outputs.{AreQuiet, entry_in, executed_in, handed_in, installed_in, other_in, others_in, snapshot_in}
+use Rattle.raft_cluster.specs.Outputs.{AreQuiet, IsQuiet, entry_in, executed_in, handed_in, installed_in, other_in, others_in, snapshot_in}
 use Rattle.raft_cluster.proofs.Machines.{handed}
 
 append_nil : {X : Type 0} (xs : List X) → xs ++ [] ≡ xs
 append_nil [] = refl
 append_nil (x ∷ xs) = ap (λ ys. x ∷ ys) (append_nil xs)
 
-module _ {S : Type 0} where
-  all_more : (a b : List (Output S)) → AreQuiet a → AreQuiet b → AreQuiet (a ++ b)
+module _ {S : Type 0} (codec : Codec S) where
+  all_more : (a b : List (Output S)) → AreQuiet codec a → AreQuiet codec b → AreQuiet codec (a ++ b)
   all_more [] b x y = y
   all_more (o ∷ a) b x y = (x.0, all_more a b x.1 y)
 
   -- nothing is executed or installed then
-  pub quiet_executed : (out : List (Output S)) → AreQuiet out → executed_in out ≡ []
+  pub quiet_executed : (out : List (Output S)) → AreQuiet codec out → executed_in out ≡ []
   quiet_executed [] q = refl
   quiet_executed (outputs.Send to bytes ∷ out) q = quiet_executed out q.1
   quiet_executed (outputs.Append bytes end ∷ out) q = absurd q.0
@@ -46,7 +48,7 @@ module _ {S : Type 0} where
   quiet_executed (outputs.Reply r ∷ out) q = quiet_executed out q.1
   quiet_executed (outputs.Read r ∷ out) q = quiet_executed out q.1
 
-  pub quiet_installed : (out : List (Output S)) → AreQuiet out → installed_in out ≡ []
+  pub quiet_installed : (out : List (Output S)) → AreQuiet codec out → installed_in out ≡ []
   quiet_installed [] q = refl
   quiet_installed (outputs.Send to bytes ∷ out) q = quiet_installed out q.1
   quiet_installed (outputs.Append bytes end ∷ out) q = absurd q.0
@@ -55,6 +57,42 @@ module _ {S : Type 0} where
   quiet_installed (outputs.Reply r ∷ out) q = quiet_installed out q.1
   quiet_installed (outputs.Read r ∷ out) q = quiet_installed out q.1
 
+  quiet_asks : (asks : List PreVote) → AreQuiet codec (map asked asks)
+  quiet_asks [] = tt
+  quiet_asks (a ∷ asks) = (inl (inl refl), quiet_asks asks)
+
+  pub quiet_replies : (rs : List Reply) → AllByRecursion IsNotOk rs → AreQuiet codec (replies_out rs)
+  quiet_replies [] all = tt
+  quiet_replies (r ∷ rs) all = (all.0, quiet_replies rs all.1)
+
+  pub quiet_granted : (r : Option PreVoteReply) → AreQuiet codec (option_to_list (option_map granted r))
+  quiet_granted None = tt
+  quiet_granted (Some r) = (inl (inr (inl refl)), tt)
+
+  quiet_reads : (rs : List Reply) → AreQuiet codec (reads_out rs)
+  quiet_reads [] = tt
+  quiet_reads (r ∷ rs) = (tt, quiet_reads rs)
+
+  -- answers to requests, and to reads
+  pub quiet_answers : (rs qs : List Reply) → AllByRecursion IsNotOk rs → AreQuiet codec (replies_out rs ++ reads_out qs)
+  quiet_answers rs qs all = all_more (replies_out rs) (reads_out qs) (quiet_replies rs all) (quiet_reads qs)
+
+  pub quiet_ticks : (asks : List PreVote) (rs qs : List Reply) → AllByRecursion IsNotOk rs → AreQuiet codec (map asked asks ++ (replies_out rs ++ reads_out qs))
+  quiet_ticks asks rs qs all = all_more (map asked asks) (replies_out rs ++ reads_out qs) (quiet_asks asks) (quiet_answers rs qs all)
+
+  -- the answer to a part
+  pub quiet_part_reply : (r : PartReply) (out : List (Output S)) → AreQuiet codec out → AreQuiet codec (answered r ∷ out)
+  quiet_part_reply r out q = (inl (inr (inr refl)), q)
+
+  -- parts of a snapshot
+  pub quiet_parts : (start : ℕ) (o : Outgoing) (out : List (Output S)) → AreParts codec start o out → AreQuiet codec out
+  quiet_parts start o [] h = tt
+  quiet_parts start o (x ∷ out) h = (
+    subst (IsQuiet codec) (sym h.0.leaves) (inr (record { start = start; part = h.0.part; fits = h.0.fits; is = refl })),
+    quiet_parts start o out h.1,
+  )
+
+module _ {S : Type 0} where
   frames_install : (xs : List (PackedInstalled S)) → frames_in (map install xs) ≡ []
   frames_install [] = refl
   frames_install (x ∷ xs) = frames_install xs
@@ -69,29 +107,6 @@ module _ {S : Type 0} where
 
 -- outputs that have no state of the machine
 module _ (S : Type 0) where
-  quiet_asks : (asks : List PreVote) → AreQuiet {S = S} (map asked asks)
-  quiet_asks [] = tt
-  quiet_asks (a ∷ asks) = (inl refl, quiet_asks asks)
-
-  pub quiet_replies : (rs : List Reply) → AllByRecursion IsNotOk rs → AreQuiet {S = S} (replies_out rs)
-  quiet_replies [] all = tt
-  quiet_replies (r ∷ rs) all = (all.0, quiet_replies rs all.1)
-
-  pub quiet_granted : (r : Option PreVoteReply) → AreQuiet {S = S} (option_to_list (option_map granted r))
-  quiet_granted None = tt
-  quiet_granted (Some r) = (inr refl, tt)
-
-  quiet_reads : (rs : List Reply) → AreQuiet {S = S} (reads_out rs)
-  quiet_reads [] = tt
-  quiet_reads (r ∷ rs) = (tt, quiet_reads rs)
-
-  -- answers to requests, and to reads
-  pub quiet_answers : (rs qs : List Reply) → AllByRecursion IsNotOk rs → AreQuiet {S = S} (replies_out rs ++ reads_out qs)
-  quiet_answers rs qs all = all_more {S = S} (replies_out rs) (reads_out qs) (quiet_replies rs all) (quiet_reads qs)
-
-  pub quiet_ticks : (asks : List PreVote) (rs qs : List Reply) → AllByRecursion IsNotOk rs → AreQuiet {S = S} (map asked asks ++ (replies_out rs ++ reads_out qs))
-  quiet_ticks asks rs qs all = all_more {S = S} (map asked asks) (replies_out rs ++ reads_out qs) (quiet_asks asks) (quiet_answers rs qs all)
-
   others_replies : (rs : List Reply) → others_in {S = S} (replies_out rs) ≡ replies_out rs
   others_replies [] = refl
   others_replies (r ∷ rs) = ap (λ (out : List (Output S)). outputs.Reply r ∷ out) (others_replies rs)
@@ -155,47 +170,56 @@ module _ (S : Type 0) where
       (flat_map-append (entry_in {S = S}) (replies_out (settled_replies e.log_id ps)) (executed_outputs es (settled_left e.log_id.index ps))
       ∙ (λ i. none_executed (settled_replies e.log_id ps) i ++ executed_executed es (settled_left e.log_id.index ps) i))
 
--- messages leave in packets
+-- messages leave as frames alone
 module _ {S : Type 0} (app : Application S) (codec : Codec S) where
-  frames_sent : (start : ℕ) (ms : List (SentMessage (Packed S))) → frames_in (map (sent codec start) ms) ≡ map (packet_frame codec start) ms
-  frames_sent start [] = refl
-  frames_sent start (m ∷ ms) = ap (λ fs. packet_frame codec start m ∷ fs) (frames_sent start ms)
+  executed_sent : (out : List (Output S)) → AreSends out → executed_in out ≡ []
+  executed_sent [] h = refl
+  executed_sent (outputs.Send to bytes ∷ out) h = executed_sent out h.1
+  executed_sent (outputs.Append bytes end ∷ out) h = absurd h.0
+  executed_sent (outputs.Install p ∷ out) h = absurd h.0
+  executed_sent (outputs.Execute e ∷ out) h = absurd h.0
+  executed_sent (outputs.Reply r ∷ out) h = absurd h.0
+  executed_sent (outputs.Read r ∷ out) h = absurd h.0
 
-  executed_sent : (start : ℕ) (ms : List (SentMessage (Packed S))) → executed_in (map (sent codec start) ms) ≡ []
-  executed_sent start [] = refl
-  executed_sent start (m ∷ ms) = executed_sent start ms
+  installed_sent : (out : List (Output S)) → AreSends out → installed_in out ≡ []
+  installed_sent [] h = refl
+  installed_sent (outputs.Send to bytes ∷ out) h = installed_sent out h.1
+  installed_sent (outputs.Append bytes end ∷ out) h = absurd h.0
+  installed_sent (outputs.Install p ∷ out) h = absurd h.0
+  installed_sent (outputs.Execute e ∷ out) h = absurd h.0
+  installed_sent (outputs.Reply r ∷ out) h = absurd h.0
+  installed_sent (outputs.Read r ∷ out) h = absurd h.0
 
-  installed_sent : (start : ℕ) (ms : List (SentMessage (Packed S))) → installed_in (map (sent codec start) ms) ≡ []
-  installed_sent start [] = refl
-  installed_sent start (m ∷ ms) = installed_sent start ms
-
-  module _ (start : ℕ) (said : PackedRecords S) (frames : List (Output S)) (sends : Sends app codec start said.bag frames) (ps : List Proposal)
+  module _ (start : ℕ) (said : PackedRecords S) (frames : List (Output S)) (leave : LeaveAll app codec start said.bag frames) (ps : List Proposal)
       (qs : List Reply) where
     abbrev es : List Entry
     es = map (λ (x : Executed). x.entry) said.executed
 
+    are_sends : AreSends frames
+    are_sends = messages_send app codec start said.bag frames leave
+
     abbrev rest : List (Output S)
     rest = map install said.installed ++ executed_outputs es ps
 
-    frames_steps : frames_in {S = S} (said_outputs frames said ps) ≡ map (packet_frame codec start) sends.packets
+    frames_steps : frames_in {S = S} (said_outputs frames said ps) ≡ frames_in frames
     frames_steps =
         frames_more frames rest
-        ∙ ((λ i. (ap frames_in sends.leaves ∙ frames_sent start sends.packets) i
+        ∙ ((λ i. frames_in frames
         ++ (frames_more (map install said.installed) (executed_outputs es ps)
         ∙ (λ j. frames_install said.installed j ++ frames_executed S es ps j)) i)
-        ∙ append_nil (map (packet_frame codec start) sends.packets))
+        ∙ append_nil (frames_in frames))
 
     executed_steps : executed_in {S = S} (said_outputs frames said ps) ≡ es
     executed_steps =
         flat_map-append entry_in frames rest
-        ∙ (λ i. (ap executed_in sends.leaves ∙ executed_sent start sends.packets) i
+        ∙ (λ i. executed_sent frames are_sends i
         ++ (flat_map-append entry_in (map install said.installed) (executed_outputs es ps)
         ∙ (λ j. executed_install said.installed j ++ executed_executed S es ps j)) i)
 
     installed_steps : installed_in {S = S} (said_outputs frames said ps) ≡ map (λ x. x.snapshot) said.installed
     installed_steps =
         flat_map-append snapshot_in frames rest
-        ∙ ((λ i. (ap installed_in sends.leaves ∙ installed_sent start sends.packets) i
+        ∙ ((λ i. installed_sent frames are_sends i
         ++ (flat_map-append snapshot_in (map install said.installed) (executed_outputs es ps)
         ∙ (λ j. installed_install said.installed j ++ installed_executed S es ps j)) i)
         ∙ append_nil (map (λ (x : PackedInstalled S). x.snapshot) said.installed))
@@ -205,10 +229,10 @@ module _ {S : Type 0} (app : Application S) (codec : Codec S) where
     abbrev all_said : List (Output S)
     all_said = said_outputs frames said ps ++ reads_out qs
 
-    pub frames_said : frames_in {S = S} all_said ≡ map (packet_frame codec start) sends.packets
+    pub frames_said : frames_in {S = S} all_said ≡ frames_in frames
     frames_said =
         frames_more (said_outputs frames said ps) (reads_out qs)
-        ∙ ((λ i. frames_steps i ++ frames_reads S qs i) ∙ append_nil (map (packet_frame codec start) sends.packets))
+        ∙ ((λ i. frames_steps i ++ frames_reads S qs i) ∙ append_nil (frames_in frames))
 
     pub executed_said : executed_in {S = S} all_said ≡ es
     executed_said =

@@ -1,5 +1,5 @@
 -- The answers of a call: those to requests leave first, and then those to reads that need no entry.
-use Rattle.std.proofs.Common.{ℕ, ◌≡◌, ◌∙◌, List, [], ◌∷◌, ◌++◌, refl, sym, ap, subst, append_assoc, inl, inr}
+use Rattle.std.proofs.Common.{ℕ, ◌≡◌, ◌∙◌, List, [], ◌∷◌, ◌++◌, ⊎_elim, refl, sym, ap, subst, append_assoc, inl, inr}
 use Rattle.std.specs.Prelude.{map, Option, None, Some}
 use Rattle.std.specs.List.{AllByRecursion}
 use Rattle.std.specs.Option.{option_map, option_to_list}
@@ -10,7 +10,8 @@ use Rattle.raft_node.specs.declared.record.Executed.{Executed}
 use Rattle.raft_codec.specs.Codec.{Codec}
 use Rattle.proof_packed.specs.Nodes.{PackedInstalled, PackedMessage}
 use Rattle.proof_packed.specs.Stores.{Application, Packed}
-use Rattle.raft_packed_wire.specs.declared.packet.SentMessage.{SentMessage}
+use Rattle.raft_packed_wire.specs.declared.packet.PackedContent.{PackedContent}
+use Rattle.raft_packed_wire.specs.declared.packet.PackedContent.TheVariants as content
 use Rattle.raft_packed_wire.specs.Messages.{received}
 use Rattle.proof_requests.specs.raft_packed_server.declared.batch.Written.{Written}
 use Rattle.raft_store.specs.declared.entry.Entry.{Entry}
@@ -20,12 +21,14 @@ use Rattle.proof_requests.specs.raft_core.declared.frame.PreVote.{PreVote}
 use Rattle.proof_requests.specs.raft_core.declared.frame.PreVoteReply.{PreVoteReply}
 use Rattle.proof_requests.specs.raft_core.declared.output.Output.{Output}
 use Rattle.proof_requests.specs.raft_core.declared.output.Output.TheVariants as outputs
-use Rattle.proof_requests.specs.raft_core.Calls.{Receives, Releases, TakesFrame, Ticks, Writes, appended}
+use Rattle.proof_requests.specs.raft_core.Calls.{Receives, Releases, TakesContent, TakesFrame, TakesMessage, Ticks, Writes, appended}
 use Rattle.proof_requests.specs.raft_core.Frames.{asked, granted}
 use Rattle.proof_requests.specs.raft_core.Laws.{read_replies_of, replies_of}
-use Rattle.proof_requests.specs.raft_core.Outputs.{executed_outputs, install, lost_replies, overdue_replies, reads_out, replies_out, said_outputs, sent}
+use Rattle.proof_requests.specs.raft_core.Outputs.{executed_outputs, install, lost_replies, overdue_replies, reads_out, replies_out, said_outputs}
+use Rattle.proof_requests.specs.raft_core.Parts.{assembled}
 use Rattle.proof_requests.specs.raft_core.Reads.{failed_replies, handed_after, read_replies, refused_left, refused_replies, with_heard, with_left}
 use Rattle.proof_requests.specs.raft_core.Views.{CoreView}
+use Rattle.proof_requests.proofs.raft_core_proofs.Sending.{AreSends, messages_send, parts_send}
 use Rattle.proof_requests.specs.Actions.{Initializes}
 use Rattle.raft_cluster.specs.Outputs.{answers_in}
 
@@ -84,9 +87,24 @@ module _ {S : Type 0} where
   both_no_replies [] b h k = k
   both_no_replies (x ∷ a) b h k = (h.0, both_no_replies a b h.1 k)
 
-  sent_no_reads : (codec : Codec S) (start : ℕ) (ms : List (SentMessage (Packed S))) → NoReads (map (sent codec start) ms)
-  sent_no_reads codec start [] = tt
-  sent_no_reads codec start (m ∷ ms) = (tt, sent_no_reads codec start ms)
+  sends_no_reads : (out : List (Output S)) → AreSends out → NoReads out
+  sends_no_reads [] h = tt
+  sends_no_reads (outputs.Send to bytes ∷ out) h = (tt, sends_no_reads out h.1)
+  sends_no_reads (outputs.Append bytes end ∷ out) h = absurd h.0
+  sends_no_reads (outputs.Install p ∷ out) h = absurd h.0
+  sends_no_reads (outputs.Execute e ∷ out) h = absurd h.0
+  sends_no_reads (outputs.Reply r ∷ out) h = absurd h.0
+  sends_no_reads (outputs.Read r ∷ out) h = absurd h.0
+
+  -- frames alone
+  sends_in_order : (out : List (Output S)) → AreSends out → AreInOrder out
+  sends_in_order [] h = refl
+  sends_in_order (outputs.Send to bytes ∷ out) h = sends_in_order out h.1
+  sends_in_order (outputs.Append bytes end ∷ out) h = absurd h.0
+  sends_in_order (outputs.Install p ∷ out) h = absurd h.0
+  sends_in_order (outputs.Execute e ∷ out) h = absurd h.0
+  sends_in_order (outputs.Reply r ∷ out) h = absurd h.0
+  sends_in_order (outputs.Read r ∷ out) h = absurd h.0
 
   install_no_reads : (xs : List (PackedInstalled S)) → NoReads (map install xs)
   install_no_reads [] = tt
@@ -123,6 +141,14 @@ module _ (S : Type 0) where
 
 -- ---- each call
 
+order_message : {S : Type 0} (app : Application S) (m : PackedMessage S) (core new : CoreView S) (out : List (Output S))
+    → TakesMessage app m core out new → AreInOrder out
+order_message {S} app m core new out t =
+    let rs : List Reply = lost_replies t.answers.lost core.requests in
+    let mid = refused_left t.answers.gone (with_heard m.message core.reads) in
+    let qs : List Reply = refused_replies t.answers.gone (with_heard m.message core.reads) ++ read_replies core.executed mid in
+    subst AreInOrder (sym t.answers.leaves) (in_order {S = S} (replies_out rs) (reads_out qs) (replies_no_reads S rs) (reads_no_replies S qs))
+
 module _ {S : Type 0} (app : Application S) (codec : Codec S) (core new : CoreView S) (out : List (Output S)) where
   pub order_initialized : Initializes app core out new → AreInOrder out
   order_initialized i = subst AreInOrder (sym i.0) refl
@@ -134,12 +160,17 @@ module _ {S : Type 0} (app : Application S) (codec : Codec S) (core new : CoreVi
       subst AreInOrder (append_assoc (map asked t.asks) (replies_out rs) (reads_out qs) ∙ sym t.answers.leaves)
       (in_order {S = S} (map asked t.asks ++ replies_out rs) (reads_out qs) (both_no_reads {S = S} (map asked t.asks) (replies_out rs) (asks_no_reads S t.asks) (replies_no_reads S rs)) (reads_no_replies S qs))
 
-  order_framed : (frame : Frame S) → TakesFrame app frame core out new → AreInOrder out
-  order_framed (frames.Packet p) (m, is, t) =
-      let rs : List Reply = lost_replies t.answers.lost core.requests in
-      let mid = refused_left t.answers.gone (with_heard m.message core.reads) in
-      let qs : List Reply = refused_replies t.answers.gone (with_heard m.message core.reads) ++ read_replies core.executed mid in
-      subst AreInOrder (sym t.answers.leaves) (in_order {S = S} (replies_out rs) (reads_out qs) (replies_no_reads S rs) (reads_no_replies S qs))
+  order_content : (x : PackedContent (Packed S)) → TakesContent app codec x core out new → AreInOrder out
+  order_content (content.Message m) t = order_message app (received app m) core new out t
+  order_content (content.Part x) (inl k) = subst AreInOrder (sym k.leaves) refl
+  order_content (content.Part x) (inr t) =
+      subst AreInOrder (sym t.leaves)
+      (order_message app (record { message = x.message; brought = t.snapshot }) (record core { incoming = assembled t.comes }) new t.others t.takes)
+
+  order_framed : (frame : Frame S) → TakesFrame app codec frame core out new → AreInOrder out
+  order_framed (frames.Packet p) t = order_content p.content t
+  order_framed (frames.PartReply reply) t =
+      ⊎_elim (λ none. subst AreInOrder (sym none) refl) (λ p. sends_in_order out (parts_send codec core.start p.0 out p.2)) t.leaves
   order_framed (frames.PreVote ask) t =
       subst AreInOrder (append_none (option_to_list (option_map granted t.replies)) ∙ sym t.leaves) (in_order {S = S} (option_to_list (option_map granted t.replies)) [] (granted_no_reads S t.replies) tt)
     where
@@ -166,6 +197,6 @@ module _ {S : Type 0} (app : Application S) (codec : Codec S) (core new : CoreVi
       subst AreInOrder (sym r.leaves)
       (in_order {S = S} (said_outputs r.frames r.said ps) (reads_out qs)
       (both_no_reads r.frames (map install r.said.installed ++ executed_outputs es ps)
-      (subst NoReads (sym r.sends.leaves) (sent_no_reads codec core.start r.sends.packets))
+      (sends_no_reads r.frames (messages_send app codec core.start r.said.bag r.frames r.sends.leave))
       (both_no_reads {S = S} (map install r.said.installed) (executed_outputs es ps) (install_no_reads r.said.installed) (executed_no_reads S es ps)))
       (reads_no_replies S qs))

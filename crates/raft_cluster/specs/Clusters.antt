@@ -1,5 +1,5 @@
 -- When a cluster follows one of the model: its servers do what that one's do, and what has left that one has left this one.
-use Rattle.std.specs.Prelude.{ℕ, ◌≡◌, ◌-◌, Bool, List, [], ◌∷◌, ◌++◌, Contains, IfSome, Option, None, Some, false, true, if◌then◌else◌, length, map, nat_eq, slice_get}
+use Rattle.std.specs.Prelude.{ℕ, ◌≡◌, ◌-◌, ◌⊎◌, Bool, List, [], ◌∷◌, ◌++◌, Contains, IfSome, Option, None, Some, false, true, if◌then◌else◌, length, map, nat_eq, slice_get}
 use Rattle.std.specs.List.{AllByRecursion, flat_map, position}
 use Rattle.std.specs.Option.{option_to_list}
 use Rattle.raft_answers.specs.declared.answer.Answer.{Answer}
@@ -17,6 +17,7 @@ use Rattle.proof_packed.specs.Nodes.{PackedMessage, PackedRecords}
 use Rattle.proof_packed.specs.Stores.{Application, Packed}
 use Rattle.proof_requests.specs.proof_packed_servers.Servers.{PackedCluster, cluster_packed}
 use Rattle.proof_requests.specs.raft_core.declared.output.Output.{Output}
+use Rattle.proof_requests.specs.raft_core.Outputs.{BringsSnapshot}
 use Rattle.raft_cluster.specs.declared.cluster.Cluster.{Cluster}
 use Rattle.raft_cluster.specs.declared.machine.Machine.{Machine}
 use Rattle.raft_cluster.specs.declared.network.Network.{Network}
@@ -28,7 +29,7 @@ use Rattle.proof_requests.specs.Frames.{frames_of as frames_in}
 use Rattle.proof_requests.specs.Requests.{Placed}
 use Rattle.raft_cluster.specs.Clients.{AreClients, answers_told}
 use Rattle.raft_cluster.specs.Histories.{KeepsWrites}
-use Rattle.raft_cluster.specs.Outputs.{IsFrameOf, IsQuestion, answers_in, executed_in, installed_in}
+use Rattle.raft_cluster.specs.Outputs.{IsFrameOf, IsNoMessage, answers_in, executed_in, installed_in}
 use Rattle.raft_cluster.specs.Servers.{IsServer}
 
 -- the place of the machine with an id
@@ -59,9 +60,9 @@ pub record IsFrameAt (sent : List Sent) (bytes : List ℕ) : Type 0 where
   pub is : slice_get (map (λ (x : Sent). x.bytes) sent) i ≡ Some bytes
 
 module _ {S : Type 0} (app : Application S) (codec : Codec S) where
-  -- each frame has a message in a packet, or is a question or an answer of a pre-vote
+  -- each frame has a message in a packet, or a part of a snapshot, or is a question or an answer that no node takes
   abbrev pub IsOf : Option (PackedMessage S) → List ℕ → Type 0
-  IsOf None bytes = IsQuestion bytes
+  IsOf None bytes = IsNoMessage codec bytes
   IsOf (Some m) bytes = IsFrameOf app codec bytes m
 
   abbrev pub AreOf : List (Option (PackedMessage S)) → List (List ℕ) → Type 0
@@ -70,11 +71,17 @@ module _ {S : Type 0} (app : Application S) (codec : Codec S) where
   AreOf (x ∷ xs) [] = ⊥
   AreOf (x ∷ xs) (frame ∷ frames) = IsOf x frame × AreOf xs frames
 
-  -- these messages have left in frames, in this order, and no others
+  -- these are the messages of a bag, in this order, but for some that bring a snapshot
+  abbrev pub AreAllBut : List (PackedMessage S) → List (PackedMessage S) → Type 0
+  AreAllBut sent [] = sent ≡ []
+  AreAllBut sent (m ∷ bag) =
+      (BringsSnapshot m.message.body × AreAllBut sent bag) ⊎ ((rest : List (PackedMessage S)) × (sent ≡ m ∷ rest) × AreAllBut rest bag)
+
+  -- these messages have left in frames, in this order, and no others; some that bring a snapshot have left in parts, as far as they have
   pub record Carries (bag : List (PackedMessage S)) (frames : List (List ℕ)) : Type 0 where
     pub carried : List (Option (PackedMessage S))
     pub each : AreOf carried frames
-    pub messages : flat_map option_to_list carried ≡ bag
+    pub messages : AreAllBut (flat_map option_to_list carried) bag
 
 -- What clients are told
 

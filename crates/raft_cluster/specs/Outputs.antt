@@ -7,12 +7,14 @@ use Rattle.raft_codec.specs.Codec.{Codec}
 use Rattle.proof_packed.specs.Nodes.{PackedMessage}
 use Rattle.proof_packed.specs.Stores.{Application, Packed}
 use Rattle.raft_packed_wire.specs.declared.packet.SentMessage.{SentMessage}
+use Rattle.raft_packed_wire.specs.declared.packet.SentPart.{SentPart}
 use Rattle.raft_packed_wire.specs.Messages.{packed_packet, received}
 use Rattle.raft_packed_wire.specs.Values.{kept}
 use Rattle.proof_requests.specs.raft_core.declared.output.Output.{Output}
 use Rattle.proof_requests.specs.raft_core.declared.output.Output.TheVariants as outputs
 use Rattle.proof_requests.specs.raft_core.Laws.{IsNotOk}
 use Rattle.proof_requests.specs.raft_core.Outputs.{packet_frame, packet_of}
+use Rattle.proof_requests.specs.raft_core.Parts.{part_frame, part_packet}
 use Rattle.raft_cluster.specs.declared.machine.Handed.{Handed}
 
 module _ {S : Type 0} where
@@ -57,9 +59,9 @@ module _ {S : Type 0} where
   abbrev pub handed_in : List (Output S) → Option Handed
   handed_in out = fold handed_after None out
 
--- a question or an answer of a pre-vote, by its first byte
+-- a question or an answer of a pre-vote, or the answer to a part of a snapshot, by its first byte
 abbrev pub IsQuestion : List ℕ → Type 0
-IsQuestion bytes = (slice_get bytes 0 ≡ Some 1) ⊎ (slice_get bytes 0 ≡ Some 2)
+IsQuestion bytes = (slice_get bytes 0 ≡ Some 1) ⊎ ((slice_get bytes 0 ≡ Some 2) ⊎ (slice_get bytes 0 ≡ Some 3))
 
 -- bytes begin as those of a packet
 abbrev pub is_packet : List ℕ → Bool
@@ -74,13 +76,25 @@ pub record IsFrameOf {S : Type 0} (app : Application S) (codec : Codec S) (bytes
   pub fits : (packed_packet (kept codec)).fits (packet_of start sent)
   pub is : bytes ≡ packet_frame codec start sent
 
--- what leaves before any record is on disk: questions and answers of a pre-vote, answers to requests that acknowledge nothing, and answers to
--- reads that need no entry
-abbrev pub IsQuiet : {S : Type 0} → Output S → Type 0
-IsQuiet (outputs.Send to bytes) = IsQuestion bytes
-IsQuiet (outputs.Reply r) = IsNotOk r
-IsQuiet (outputs.Read r) = Unit {0}
-IsQuiet _ = ⊥
+-- the frame of a part of a snapshot, in a packet of some start
+pub record IsPartFrame {S : Type 0} (codec : Codec S) (bytes : List ℕ) : Type 0 where
+  pub start : ℕ
+  pub part : SentPart
+  pub fits : (packed_packet (kept codec)).fits (part_packet codec start part)
+  pub is : bytes ≡ part_frame codec start part
 
-abbrev pub AreQuiet : {S : Type 0} → List (Output S) → Type 0
-AreQuiet out = AllByRecursion IsQuiet out
+module _ {S : Type 0} (codec : Codec S) where
+  -- no message leaves whole with it
+  abbrev pub IsNoMessage : List ℕ → Type 0
+  IsNoMessage bytes = IsQuestion bytes ⊎ IsPartFrame codec bytes
+
+  -- what leaves before any record is on disk: questions and answers of a pre-vote, parts of snapshots whose messages have left, and the answers to
+  -- them, answers to requests that acknowledge nothing, and answers to reads that need no entry
+  abbrev pub IsQuiet : Output S → Type 0
+  IsQuiet (outputs.Send to bytes) = IsNoMessage bytes
+  IsQuiet (outputs.Reply r) = IsNotOk r
+  IsQuiet (outputs.Read r) = Unit {0}
+  IsQuiet _ = ⊥
+
+  abbrev pub AreQuiet : List (Output S) → Type 0
+  AreQuiet out = AllByRecursion IsQuiet out

@@ -290,7 +290,7 @@ impl<M: StateMachine> Machine<M> {
             }
             FrameError::TooLarge
             | FrameError::Busy
-            | FrameError::Chunk
+            | FrameError::Stale { .. }
             | FrameError::Decode(_)
             | FrameError::Misdirected { .. }
             | FrameError::TermJump { .. } => Done::quiet(alloc, Comes::NotTaken(error)),

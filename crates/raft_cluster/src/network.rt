@@ -48,7 +48,7 @@ fn kind_of(body: &Body) -> &'static str {
 fn kind_of_content<M: StateMachine>(content: &PackedContent<Packed<M>>) -> &'static str {
     match content {
         PackedContent::Message(sent) => kind_of(&sent.message.body),
-        PackedContent::Chunk(_) => "chunk",
+        PackedContent::Part(_) => "part",
     }
 }
 
@@ -75,13 +75,14 @@ fn sent_at(sent: &[Sent], number: u64) -> Option<&Sent>
 }
 
 impl Sent {
-    /// The kind of the frame: that of its message, as schedules have it; or a question or an answer of a pre-vote. `M` is the servers' state
-    /// machine.
+    /// The kind of the frame: that of its message, as schedules have it; a part of a snapshot, or the answer to it; or a question or an answer
+    /// of a pre-vote. `M` is the servers' state machine.
     pub fn kind<M: StateMachine>(&self, alloc: Global) -> &'static str {
         match self.bytes.as_slice() {
             [0, rest @ ..] => kind_of_packet::<M>(alloc, rest),
             [1, ..] => "pre-vote",
             [2, ..] => "pre-vote-reply",
+            [3, ..] => "part-reply",
             _ => "unknown",
         }
     }

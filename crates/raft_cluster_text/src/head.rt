@@ -95,5 +95,6 @@ pub fn draw_head(alloc: Global, dice: &mut Dice) -> Result<String, AllocError> {
     push_limit(dice, "waiting", 64, 400, &mut text)?;
     push_limit(dice, "requests", 1, 30, &mut text)?;
     push_limit(dice, "batch", 8, 200, &mut text)?;
+    push_limit(dice, "part", 8, 200, &mut text)?;
     Ok(text)
 }

@@ -5,7 +5,8 @@
 //!
 //! First the head of a schedule of the second language (docs/SCHEDULES.md): `language 2`, nodes, voters, learners and settings. Then
 //! limits of the servers, if others than the usual ones are wanted: `limit NAME N` with `spread`, `heartbeat`, `patience`, `timeout`,
-//! `catch-up`, `log`, `value`, `waiting`, `requests`, `batch`, `frame`, `unwritten` or `jump` (in milliseconds, entries, bytes or terms).
+//! `catch-up`, `log`, `value`, `waiting`, `requests`, `batch`, `frame`, `part`, `snapshot`, `unwritten` or `jump` (in milliseconds, entries,
+//! bytes or terms).
 //! Then lines of what happens:
 //!
 //! | Line | What happens |

@@ -229,6 +229,8 @@ fn set_limit(name: &str, number: u64, config: &mut Config) -> bool {
         "requests" => config.limits.requests = number as usize,
         "batch" => config.limits.batch_bytes = number as usize,
         "frame" => config.peers.frame_bytes = number as usize,
+        "part" => config.peers.part_bytes = number as usize,
+        "snapshot" => config.peers.snapshot_bytes = number,
         "unwritten" => config.peers.unwritten_bytes = number as usize,
         "jump" => config.peers.term_jump = number,
         _ => return false,

@@ -1,22 +1,34 @@
 -- Calls of a server, from those of its parts.
-use Rattle.std.proofs.Common.{ℕ, ◌≡◌, Bool, true, false, List, [], ◌∷◌, ◌++◌, ◌∙◌, refl, sym, ap, subst, append_assoc, map, Ok}
-use Rattle.std.specs.Prelude.{◌≢◌, ◌↔◌, IsTrue, None, Option}
+use Rattle.std.proofs.Common.{ℕ, ◌≡◌, ⊎_elim, inl, inr, Bool, true, false, List, [], ◌∷◌, ◌++◌, ◌∙◌, refl, sym, ap, subst, append_assoc, map, Ok}
+use Rattle.std.specs.Prelude.{◌≢◌, ◌⊎◌, ◌↔◌, Contains, IsTrue, None, Option, Some}
 use Rattle.std.specs.Option.{option_map}
 use Rattle.raft_answers.specs.declared.answer.Reply.{Reply}
 use Rattle.raft_answers.specs.declared.request.Request.{Request}
 use Rattle.raft_answers.specs.Answers.{expired, expired_replies}
 use Rattle.raft_answers.specs.Requests.{Open}
+use Rattle.raft_calls.specs.declared.message.Message.{Message}
 use Rattle.raft_codec.specs.Codec.{Codec}
+use Rattle.raft_chunks.specs.Assembled.{Assembled}
+use Rattle.raft_chunks.specs.Assembly.{cursor_of, nothing, taken}
+use Rattle.raft_chunks.specs.Chunks.{Piece}
+use Rattle.raft_chunks.specs.declared.cursor.Cursor.{Cursor}
+use Rattle.raft_chunks.specs.Form.{opened, piece as chunk}
 use Rattle.raft_packed_server.specs.proof_packed.Nodes.{PackedMessage, PackedRecords}
-use Rattle.raft_packed_server.specs.proof_packed.Stores.{Application}
+use Rattle.raft_packed_server.specs.proof_packed.Stores.{Application, Packed}
 use Rattle.raft_packed_server.specs.proof_packed_servers.Servers.{PackedServer}
+use Rattle.raft_packed_server.specs.raft_packed_wire.declared.packet.SentPart.{SentPart}
+use Rattle.raft_packed_server.specs.raft_packed_wire.Values.{kept as stored}
 use Rattle.raft_packed_server.specs.declared.batch.Written.{Written}
 use Rattle.raft_packed_server.specs.declared.error.ServerError.{ServerError}
 use Rattle.raft_packed_server.specs.Represents.{Flushes, HandsOut, Represents}
 use Rattle.raft_packed_server.specs.Views.{ServerView, released}
 use Rattle.raft_core.specs.declared.output.Output.{Output}
-use Rattle.raft_core.specs.Calls.{AnswersAfter, AnswersOverdue, Asks, Loses, Proposes, RefusesReads, Releases, TakesMessage, WritesNow, appended}
+use Rattle.raft_core.specs.declared.frame.PartReply.{PartReply}
+use Rattle.raft_core.specs.Calls.{AnswersAfter, AnswersOverdue, Asks, CompletesSnapshot, GoesOn, KeepsPart, Loses, Proposes, RefusesReads, Releases}
+use Rattle.raft_core.specs.Calls.{TakesMessage, WritesNow, appended}
+use Rattle.raft_core.specs.Frames.{answered}
 use Rattle.raft_core.specs.Outputs.{Sends, reads_out, replies_out, said_outputs, settled_all}
+use Rattle.raft_core.specs.Parts.{AreParts, Outgoing}
 use Rattle.raft_core.specs.Reads.{ReadsView, failed_left, failed_replies, handed_after, read_left, read_replies, with_heard, with_left}
 use Rattle.raft_core.specs.Steps.{TakesSteps, step_taking}
 use Rattle.raft_core.specs.Views.{CoreView}
@@ -69,32 +81,32 @@ module _ {S : Type 0} (app : Application S) (c : Codec S) where
   -- records came on disk
   pub releases : (position : ℕ) (old j : CoreView S) (out : List (Output S)) (s : ServerView S) (said : PackedRecords S)
       (frames : List (Output S)) (left : Open)
-      (executed : Option ℕ) (reads : ReadsView)
+      (executed : Option ℕ) (reads : ReadsView) (mid going : List Outgoing)
       → j ≡ record old { server = s } → Flushes app {E = ServerError} position old.server (Ok said) s
       → old.server.serving ≢ None → s.serving ≡ option_map (λ v. (released position v).1) old.server.serving → s.given ≡ old.server.given
-      → Sends app c j.start said.bag frames
+      → ((o : Outgoing) → Contains mid o → Contains j.outgoing o) → Sends app c j.start said.bag mid frames going
       → left ≡ settled_all (map (λ x. x.entry) said.executed) j.requests → executed ≡ handed_after said j.executed
       → reads ≡ read_left (handed_after said j.executed) (with_left said.answers j.reads)
       → out ≡ said_outputs frames said j.requests.proposed ++ reads_out (read_replies (handed_after said j.executed) (with_left said.answers j.reads))
-      → Releases app c position old out (record j { requests = left; executed = executed; reads = reads })
-  releases position old j out s said frames left executed reads same flushes serves done given sends settles executes answers leaves =
-      subst (λ (v : CoreView S). Sends app c v.start said.bag frames → left ≡ settled_all (map (λ x. x.entry) said.executed) v.requests
+      → Releases app c position old out (record j { requests = left; executed = executed; reads = reads; outgoing = going })
+  releases position old j out s said frames left executed reads mid going same flushes serves done given kept sends settles executes answers leaves =
+      subst (λ (v : CoreView S). ((o : Outgoing) → Contains mid o → Contains v.outgoing o) → Sends app c v.start said.bag mid frames going → left ≡ settled_all (map (λ x. x.entry) said.executed) v.requests
       → executed ≡ handed_after said v.executed
       → reads ≡ read_left (handed_after said v.executed) (with_left said.answers v.reads)
       → out ≡ said_outputs frames said v.requests.proposed ++ reads_out (read_replies (handed_after said v.executed) (with_left said.answers v.reads))
-      → Releases app c position old out (record v { requests = left; executed = executed; reads = reads })) (sym same)
-      (λ b e x a l. record {
+      → Releases app c position old out (record v { requests = left; executed = executed; reads = reads; outgoing = going })) (sym same)
+      (λ k b e x a l. record {
         said = said;
         frames = frames;
         flushes = flushes;
         serves = serves;
         released = done;
         given = given;
-        sends = b;
-        rest = λ i. record old { server = s; requests = e i; executed = x i; reads = a i };
+        sends = record { leave = b.leave; outgoing = λ o there. ⊎_elim (λ before. inl (k o before)) (λ y. inr y) (b.outgoing o there) };
+        rest = λ i. record old { server = s; outgoing = going; requests = e i; executed = x i; reads = a i };
         leaves = l;
       })
-      sends settles executes answers leaves
+      kept sends settles executes answers leaves
 
 module _ {S : Type 0} where
   -- ---- what is answered, from its parts
@@ -141,3 +153,90 @@ takes_message app m old j out server requests reads to same takes answers =
     → AnswersAfter v.executed v.requests v.reads out requests reads
     → TakesMessage app m old out (record v { server = server; requests = requests; reads = reads })) (sym same)
     (λ t a. record { to = to; takes = t; answers = a; rest = refl }) takes answers
+
+-- ---- parts of snapshots
+
+module _ {S : Type 0} (app : Application S) (c : Codec S) where
+  -- a server has answered a part
+  pub goes_on : (reply : PartReply) (old j : CoreView S) (front out : List (Output S)) (going : List Outgoing)
+      → reply.to ≡ old.id → j ≡ old → front ≡ [] → ((o : Outgoing) → Contains going o → Contains j.outgoing o)
+      → (out ≡ front) ⊎ ((o : Outgoing) × (sent : List (Output S)) × Contains j.outgoing o × AreParts c j.start o sent × (out ≡ front ++ sent))
+      → GoesOn c reply old out (record j { outgoing = going })
+  goes_on reply old j front out going to same none kept leaves =
+      subst (λ (v : CoreView S). ((o : Outgoing) → Contains going o → Contains v.outgoing o)
+      → (out ≡ front) ⊎ ((o : Outgoing) × (sent : List (Output S)) × Contains v.outgoing o × AreParts c v.start o sent × (out ≡ front ++ sent))
+      → GoesOn c reply old out (record v { outgoing = going })) (sym same)
+      (λ k l. record {
+        to = to;
+        rest = refl;
+        outgoing = k;
+        leaves = ⊎_elim (λ e. inl (e ∙ none))
+            (λ p. inr (p.0, p.2, subst (AreParts c old.start p.0) (sym (p.4 ∙ ap (λ (xs : List (Output S)). xs ++ p.1) none)) p.3)) l;
+      })
+      kept leaves
+
+  module _ (x : SentPart) (old j : CoreView S) (before : Assembled) (p : Piece) (reply : PartReply) (begun : (before ≡ old.incoming) ⊎ (before ≡ nothing 0))
+      (reads : opened chunk x.chunk ≡ Ok p) (becomes : j ≡ record old { incoming = (taken before p).1 })
+      (tells : reply ≡ record { from = old.id; to = x.message.from; cursor = cursor_of (taken before p).1 p.at.title }) where
+    -- a part has come
+    pub keeps_part : (out : List (Output S)) → x.message.to ≡ old.id → out ≡ answered reply ∷ [] → KeepsPart x old out j
+    keeps_part out to leaves = record {
+      to = to;
+      comes = record { before = before; begun = begun; piece = p; reads = reads };
+      rest = becomes;
+      leaves = leaves ∙ ap (λ (r : PartReply). answered r ∷ []) tells;
+    }
+
+    -- and the snapshot is whole with it
+    pub completes : (out others : List (Output S)) (new : CoreView S) (snapshot : Packed S) → (stored c).fits snapshot
+        → (taken before p).0 ≡ Ok (Some ((stored c).bytes snapshot))
+        → TakesMessage app (record { message = x.message; brought = snapshot }) j others new → out ≡ answered reply ∷ others
+        → CompletesSnapshot app c x old out new
+    completes out others new snapshot fits whole takes leaves = record {
+      comes = record { before = before; begun = begun; piece = p; reads = reads };
+      bytes = (stored c).bytes snapshot;
+      whole = whole;
+      snapshot = snapshot;
+      fits = fits;
+      is = refl;
+      others = others;
+      takes = subst (λ (v : CoreView S). TakesMessage app (record { message = x.message; brought = snapshot }) v others new) becomes takes;
+      leaves = leaves ∙ ap (λ (r : PartReply). answered r ∷ others) tells;
+    }
+
+  -- a chunk was put behind what had come
+  module _ (x : SentPart) (m : Message) (old v : CoreView S) (before after : Assembled) (p : Piece) (cur : Cursor) (is : x.message ≡ m)
+      (reads : opened chunk x.chunk ≡ Ok p) (same : v ≡ old) (begun : (before ≡ v.incoming) ⊎ (before ≡ nothing 0))
+      (puts : after ≡ (taken before p).1) (points : cur ≡ cursor_of after p.at.title) where
+    begun_before : (before ≡ old.incoming) ⊎ (before ≡ nothing 0)
+    begun_before = ⊎_elim (λ e. inl (e ∙ ap (λ (u : CoreView S). u.incoming) same)) (λ e. inr e) begun
+
+    becomes : record v { incoming = after } ≡ record old { incoming = (taken before p).1 }
+    becomes = ap (λ (u : CoreView S). record u { incoming = after }) same ∙ ap (λ (a : Assembled). record old { incoming = a }) puts
+
+    abbrev reply : PartReply
+    reply = record { from = v.id; to = m.from; cursor = cur }
+
+    abbrev next : PartReply
+    next = record { from = old.id; to = x.message.from; cursor = cursor_of (taken before p).1 p.at.title }
+
+    tells : reply ≡ next
+    tells =
+        ap (λ (u : CoreView S). record { from = u.id; to = m.from; cursor = cur }) same
+        ∙ (ap (λ (y : Message). record { from = old.id; to = y.from; cursor = cur }) (sym is)
+        ∙ ap (λ (a : Cursor). record { from = old.id; to = x.message.from; cursor = a })
+        (points ∙ ap (λ (a : Assembled). cursor_of a p.at.title) puts))
+
+    pub keeps_chunk : (out : List (Output S)) → m.to ≡ old.id → out ≡ answered reply ∷ [] → KeepsPart x old out (record v { incoming = after })
+    keeps_chunk out to leaves =
+        keeps_part x old (record v { incoming = after }) before p reply begun_before reads becomes tells out (ap (λ (y : Message). y.to) is ∙ to) leaves
+
+    pub completes_chunk : (out others : List (Output S)) (new : CoreView S) (there : Assembled) (snapshot : Packed S) → (stored c).fits snapshot
+        → (taken before p).0 ≡ Ok (Some ((stored c).bytes snapshot)) → there ≡ after
+        → TakesMessage app (record { message = m; brought = snapshot }) (record v { incoming = there }) others new
+        → out ≡ answered reply ∷ others → CompletesSnapshot app c x old out new
+    completes_chunk out others new there snapshot fits whole stays takes leaves =
+        completes x old (record v { incoming = after }) before p reply begun_before reads becomes tells out others new snapshot fits whole
+        (subst (λ (y : Message). TakesMessage app (record { message = y; brought = snapshot }) (record v { incoming = after }) others new) (sym is)
+        (subst (λ (a : Assembled). TakesMessage app (record { message = m; brought = snapshot }) (record v { incoming = a }) others new) stays takes))
+        leaves

@@ -5,6 +5,9 @@ pub use Rattle.raft_packed_server.proofs.raft_packed_wire_proofs as raft_packed_
 pub mod Stepped
 pub mod Released
 pub mod Reading
+pub mod Sending
+pub mod Parting
+pub mod Among
 pub mod Told
 pub mod Unsaid
 pub mod ReadsTold

@@ -1,6 +1,6 @@
 -- Each read is answered once.
-use Rattle.std.proofs.Common.{ℕ, ◌≡◌, ◌∙◌, List, [], ◌∷◌, ◌++◌, None, Some, refl, sym, ap, subst, inl, inr}
-use Rattle.std.specs.Prelude.{map, take, Option}
+use Rattle.std.proofs.Common.{ℕ, ◌≡◌, ◌∙◌, ⊎_elim, List, [], ◌∷◌, ◌++◌, None, Some, refl, sym, ap, subst, inl, inr}
+use Rattle.std.specs.Prelude.{◌⊎◌, Contains, map, take, Option}
 use Rattle.std.specs.Option.{option_map, option_to_list}
 use Rattle.std.proofs.lemmas.List.{append-nil, map-append}
 use Rattle.raft_answers.specs.declared.answer.Answer.TheVariants.{Failed, NotLeader}
@@ -8,7 +8,9 @@ use Rattle.raft_answers.specs.declared.answer.Reply.{Reply}
 use Rattle.raft_answers.specs.declared.request.Proposal.{Proposal}
 use Rattle.raft_answers.specs.declared.request.Token.{Token}
 use Rattle.raft_answers.specs.Answers.{settled_left, settled_replies}
-use Rattle.raft_packed_server.specs.raft_packed_wire.declared.packet.SentMessage.{SentMessage}
+use Rattle.raft_packed_server.specs.raft_packed_wire.declared.packet.PackedContent.{PackedContent}
+use Rattle.raft_packed_server.specs.raft_packed_wire.declared.packet.PackedContent.TheVariants as content
+use Rattle.raft_packed_server.specs.raft_packed_wire.Messages.{received}
 use Rattle.raft_codec.specs.Codec.{Codec}
 use Rattle.raft_packed_server.specs.proof_packed.Nodes.{PackedInstalled, PackedMessage}
 use Rattle.raft_packed_server.specs.proof_packed.Stores.{Application, Packed}
@@ -23,13 +25,15 @@ use Rattle.raft_core.specs.declared.output.Output.{Output}
 use Rattle.raft_core.specs.declared.output.Output.TheVariants as outputs
 use Rattle.raft_core.specs.declared.reads.Reader.{Reader}
 use Rattle.raft_core.specs.Views.{CoreView}
-use Rattle.raft_core.specs.Calls.{AdmitsRead, Asks, Releases, TakesMessage, TakesFrame, Ticks, Writes, WritesNow, appended}
+use Rattle.raft_core.specs.Calls.{AdmitsRead, Asks, Releases, TakesContent, TakesMessage, TakesFrame, Ticks, Writes, WritesNow, appended}
 use Rattle.raft_core.specs.Frames.{asked, granted}
 use Rattle.raft_core.specs.Laws.{AnswersReads, OnlyRoundsTellOk, ReadsAreAnsweredOnce, read_replies_of}
-use Rattle.raft_core.specs.Outputs.{executed_outputs, install, lost_replies, overdue_replies, reads_out, replies_out, said_outputs, sent}
+use Rattle.raft_core.specs.Outputs.{executed_outputs, install, lost_replies, overdue_replies, reads_out, replies_out, said_outputs}
+use Rattle.raft_core.specs.Parts.{AreParts, Outgoing, assembled}
 use Rattle.raft_core.specs.Reads.{ReadsView, count_overdue, handed_after, failed_left, failed_replies, read_left, read_replies, read_tokens}
 use Rattle.raft_core.specs.Reads.{refused_left, refused_replies, told, with_heard, with_left}
 use Rattle.raft_core.proofs.Reading.{ReadsFirst, both_reads, fails_first, left_keeps, reads_first, refuses_first}
+use Rattle.raft_core.proofs.Sending.{AreSends, messages_send, parts_send}
 use Rattle.raft_core.proofs.Unsaid.{NoOk, no_more}
 
 -- ---- the answers to reads among outputs
@@ -44,9 +48,18 @@ module _ {S : Type 0} where
   reads_more (outputs.Install snapshot ∷ a) b = reads_more a b
   reads_more (outputs.Execute entry ∷ a) b = reads_more a b
 
-  none_sent : (c : Codec S) (start : ℕ) (ms : List (SentMessage (Packed S))) → read_replies_of (map (sent c start) ms) ≡ []
-  none_sent c start [] = refl
-  none_sent c start (m ∷ ms) = none_sent c start ms
+  none_sent : (out : List (Output S)) → AreSends out → read_replies_of out ≡ []
+  none_sent [] h = refl
+  none_sent (outputs.Send to bytes ∷ out) h = none_sent out h.1
+  none_sent (outputs.Append bytes end ∷ out) h = absurd h.0
+  none_sent (outputs.Install snapshot ∷ out) h = absurd h.0
+  none_sent (outputs.Execute entry ∷ out) h = absurd h.0
+  none_sent (outputs.Reply r ∷ out) h = absurd h.0
+  none_sent (outputs.Read r ∷ out) h = absurd h.0
+
+  pub none_went : (c : Codec S) (start : ℕ) (old : List Outgoing) (out : List (Output S))
+      → (out ≡ []) ⊎ ((o : Outgoing) × Contains old o × AreParts c start o out) → read_replies_of out ≡ []
+  none_went c start old out h = ⊎_elim (λ none. ap read_replies_of none) (λ p. none_sent out (parts_send c start p.0 out p.2)) h
 
   none_installed : (xs : List (PackedInstalled S)) → read_replies_of (map install xs) ≡ []
   none_installed [] = refl
@@ -147,7 +160,7 @@ module _ {S : Type 0} (app : Application S) (c : Codec S) where
   said_quiet position old new out r =
       let es = map (λ x. x.entry) r.said.executed in
       none_both r.frames (map install r.said.installed ++ executed_outputs es old.requests.proposed)
-      (ap read_replies_of r.sends.leaves ∙ none_sent c old.start r.sends.packets)
+      (none_sent r.frames (messages_send app c old.start r.said.bag r.frames r.sends.leave))
       (none_both (map install r.said.installed) (executed_outputs es old.requests.proposed) (none_installed r.said.installed)
       (none_executed S es old.requests.proposed))
 
@@ -173,11 +186,10 @@ module _ {S : Type 0} (app : Application S) (c : Codec S) where
       (both_reads old.reads mid (failed_left t.upto mid) (refused_replies gone old.reads) (failed_replies t.upto mid)
       (refuses_first gone old.reads) (fails_first t.upto mid))
 
-  receives_frame : (frame : Frame S) (old new : CoreView S) (out : List (Output S)) → TakesFrame app frame old out new → AnswersReads old out new
-  receives_frame (frames.Packet p) old new out r =
-      let t = r.2 in
+  takes_message : (m : PackedMessage S) (old new : CoreView S) (out : List (Output S)) → TakesMessage app m old out new → AnswersReads old out new
+  takes_message m old new out t =
       let gone = t.answers.gone in
-      let heard = with_heard r.0.message old.reads in
+      let heard = with_heard m.message old.reads in
       let mid = refused_left gone heard in
       let said = ap read_replies_of t.answers.leaves
       ∙ behind (replies_out (lost_replies t.answers.lost old.requests)) (refused_replies gone heard ++ read_replies old.executed mid)
@@ -186,6 +198,21 @@ module _ {S : Type 0} (app : Application S) (c : Codec S) where
       (read_left old.executed mid) said t.answers.reads_left
       (both_reads heard mid (read_left old.executed mid) (refused_replies gone heard) (read_replies old.executed mid) (refuses_first gone heard)
       (reads_first old.executed mid))
+
+  receives_content : (x : PackedContent (Packed S)) (old new : CoreView S) (out : List (Output S)) → TakesContent app c x old out new
+      → AnswersReads old out new
+  receives_content (content.Message m) old new out t = takes_message (received app m) old new out t
+  receives_content (content.Part x) old new out (inl k) =
+      by_equal old.reads [] (read_replies_of out) new.reads old.reads (ap read_replies_of k.leaves) (ap (λ (v : CoreView S). v.reads) k.rest) refl
+  receives_content (content.Part x) old new out (inr t) =
+      by_equal old.reads (read_replies_of t.others) (read_replies_of out) new.reads new.reads (ap read_replies_of t.leaves) refl
+      (takes_message (record { message = x.message; brought = t.snapshot }) (record old { incoming = assembled t.comes }) new t.others t.takes)
+
+  receives_frame : (frame : Frame S) (old new : CoreView S) (out : List (Output S)) → TakesFrame app c frame old out new → AnswersReads old out new
+  receives_frame (frames.Packet p) old new out r = receives_content p.content old new out r
+  receives_frame (frames.PartReply reply) old new out r =
+      by_equal old.reads [] (read_replies_of out) new.reads old.reads (none_went c old.start old.outgoing out r.leaves)
+      (ap (λ (v : CoreView S). v.reads) r.rest) refl
   receives_frame (frames.PreVote ask) old new out r =
       by_equal old.reads [] (read_replies_of out) new.reads old.reads (ap read_replies_of r.leaves ∙ none_granted S r.replies)
       (ap (λ (v : CoreView S). v.reads) r.rest) refl

@@ -1,6 +1,6 @@
 -- Each client is answered once.
-use Rattle.std.proofs.Common.{ℕ, ◌≡◌, ◌∙◌, Bool, true, false, List, [], ◌∷◌, ◌++◌, None, Some, refl, sym, ap, subst, append_assoc, inl, inr}
-use Rattle.std.specs.Prelude.{map, Option}
+use Rattle.std.proofs.Common.{ℕ, ◌≡◌, ◌∙◌, ⊎_elim, Bool, true, false, List, [], ◌∷◌, ◌++◌, None, Some, refl, sym, ap, subst, append_assoc, inl, inr}
+use Rattle.std.specs.Prelude.{◌⊎◌, Contains, map, Option}
 use Rattle.std.specs.Option.{option_map, option_to_list}
 use Rattle.std.proofs.lemmas.List.{append-nil, map-append}
 use Rattle.raft_answers.specs.declared.answer.Answer.TheVariants.{NotLeader}
@@ -11,9 +11,11 @@ use Rattle.raft_answers.specs.Answers.{ended, expired_replies, failed, refused, 
 use Rattle.raft_answers.specs.Laws.{AnswersFirst}
 use Rattle.raft_answers.specs.Requests.{Batched, IsBatched, Open, no_requests, tokens_of}
 use Rattle.raft_answers.proofs.Answered.{both, ends, expires, fails, of_proposal, of_request, proposes, refuses, settles}
-use Rattle.raft_packed_server.specs.raft_packed_wire.declared.packet.SentMessage.{SentMessage}
+use Rattle.raft_packed_server.specs.raft_packed_wire.declared.packet.PackedContent.{PackedContent}
+use Rattle.raft_packed_server.specs.raft_packed_wire.declared.packet.PackedContent.TheVariants as content
+use Rattle.raft_packed_server.specs.raft_packed_wire.Messages.{received}
 use Rattle.raft_codec.specs.Codec.{Codec}
-use Rattle.raft_packed_server.specs.proof_packed.Nodes.{PackedInstalled, PackedRecords}
+use Rattle.raft_packed_server.specs.proof_packed.Nodes.{PackedInstalled, PackedMessage, PackedRecords}
 use Rattle.raft_packed_server.specs.proof_packed.Stores.{Application, Packed}
 use Rattle.raft_schedule.specs.declared.event.Outcome.{Outcome}
 use Rattle.raft_schedule.specs.declared.event.Outcome.TheVariants.{Done, Refused, Skipped, Stopped}
@@ -28,11 +30,14 @@ use Rattle.raft_core.specs.declared.frame.PreVoteReply.{PreVoteReply}
 use Rattle.raft_core.specs.declared.output.Output.{Output}
 use Rattle.raft_core.specs.declared.output.Output.TheVariants as outputs
 use Rattle.raft_core.specs.Views.{CoreView}
-use Rattle.raft_core.specs.Calls.{Admits, Becomes, Proposes, RefusesAll, Releases, TakesFrame, Ticks, Writes, WritesNow, appended}
+use Rattle.raft_core.specs.Calls.{Admits, Becomes, Proposes, RefusesAll, Releases, TakesContent, TakesFrame, TakesMessage, Ticks, Writes, WritesNow}
+use Rattle.raft_core.specs.Calls.{appended}
 use Rattle.raft_core.specs.Frames.{asked, granted}
 use Rattle.raft_core.specs.Laws.{AnswersOnce, ClientsAreAnsweredOnce, replies_of}
 use Rattle.raft_core.specs.Outputs.{executed_outputs, install, lost_left, lost_replies, overdue_left, overdue_replies, reads_out, replies_out}
-use Rattle.raft_core.specs.Outputs.{said_outputs, sent, settled_all}
+use Rattle.raft_core.specs.Outputs.{said_outputs, settled_all}
+use Rattle.raft_core.specs.Parts.{AreParts, Outgoing, assembled}
+use Rattle.raft_core.proofs.Sending.{AreSends, messages_send, parts_send}
 use Rattle.raft_core.specs.Reads.{handed_after, read_replies, refused_left, refused_replies, with_heard, with_left}
 
 -- ---- the replies among outputs
@@ -47,9 +52,18 @@ module _ {S : Type 0} where
   replies_more (outputs.Install snapshot ∷ a) b = replies_more a b
   replies_more (outputs.Execute entry ∷ a) b = replies_more a b
 
-  none_sent : (c : Codec S) (start : ℕ) (ms : List (SentMessage (Packed S))) → replies_of (map (sent c start) ms) ≡ []
-  none_sent c start [] = refl
-  none_sent c start (m ∷ ms) = none_sent c start ms
+  pub none_sent : (out : List (Output S)) → AreSends out → replies_of out ≡ []
+  none_sent [] h = refl
+  none_sent (outputs.Send to bytes ∷ out) h = none_sent out h.1
+  none_sent (outputs.Append bytes end ∷ out) h = absurd h.0
+  none_sent (outputs.Install snapshot ∷ out) h = absurd h.0
+  none_sent (outputs.Execute entry ∷ out) h = absurd h.0
+  none_sent (outputs.Reply r ∷ out) h = absurd h.0
+  none_sent (outputs.Read r ∷ out) h = absurd h.0
+
+  pub none_went : (c : Codec S) (start : ℕ) (old : List Outgoing) (out : List (Output S))
+      → (out ≡ []) ⊎ ((o : Outgoing) × Contains old o × AreParts c start o out) → replies_of out ≡ []
+  none_went c start old out h = ⊎_elim (λ none. ap replies_of none) (λ p. none_sent out (parts_send c start p.0 out p.2)) h
 
   none_installed : (xs : List (PackedInstalled S)) → replies_of (map install xs) ≡ []
   none_installed [] = refl
@@ -169,14 +183,29 @@ module _ {S : Type 0} (app : Application S) (c : Codec S) where
       (subst (λ (o : Open). AnswersFirst old.requests (overdue_replies a.lost t.upto old.requests) o) (sym a.requests_left)
       (overdue_first a.lost t.upto old.requests))
 
-  receives_frame : (frame : Frame S) (old new : CoreView S) (out : List (Output S)) → TakesFrame app frame old out new → AnswersOnce old out new
-  receives_frame (frames.Packet p) old new out r =
-      let a = r.2.answers in
-      let heard = with_heard r.0.message old.reads in
+  takes_message : (m : PackedMessage S) (old new : CoreView S) (out : List (Output S)) → TakesMessage app m old out new → AnswersOnce old out new
+  takes_message m old new out t =
+      let a = t.answers in
+      let heard = with_heard m.message old.reads in
       let told = refused_replies a.gone heard ++ read_replies old.executed (refused_left a.gone heard) in
       subst (λ rs. AnswersFirst old.requests rs new.requests)
       (sym (ap replies_of a.leaves ∙ before (lost_replies a.lost old.requests) (reads_out told) (none_read S told)))
       (subst (λ (o : Open). AnswersFirst old.requests (lost_replies a.lost old.requests) o) (sym a.requests_left) (lost_first a.lost old.requests))
+
+  receives_content : (x : PackedContent (Packed S)) (old new : CoreView S) (out : List (Output S)) → TakesContent app c x old out new
+      → AnswersOnce old out new
+  receives_content (content.Message m) old new out t = takes_message (received app m) old new out t
+  receives_content (content.Part x) old new out (inl k) =
+      subst (λ rs. AnswersFirst old.requests rs new.requests) (sym (ap replies_of k.leaves)) (ap (λ (v : CoreView S). tokens_of v.requests) (sym k.rest))
+  receives_content (content.Part x) old new out (inr t) =
+      subst (λ rs. AnswersFirst old.requests rs new.requests) (sym (ap replies_of t.leaves))
+      (takes_message (record { message = x.message; brought = t.snapshot }) (record old { incoming = assembled t.comes }) new t.others t.takes)
+
+  receives_frame : (frame : Frame S) (old new : CoreView S) (out : List (Output S)) → TakesFrame app c frame old out new → AnswersOnce old out new
+  receives_frame (frames.Packet p) old new out r = receives_content p.content old new out r
+  receives_frame (frames.PartReply reply) old new out r =
+      subst (λ rs. AnswersFirst old.requests rs new.requests) (sym (none_went c old.start old.outgoing out r.leaves))
+      (ap (λ (v : CoreView S). tokens_of v.requests) (sym r.rest))
   receives_frame (frames.PreVote ask) old new out r =
       subst (λ rs. AnswersFirst old.requests rs new.requests) (sym (ap replies_of r.leaves ∙ none_granted S r.replies))
       (ap (λ (v : CoreView S). tokens_of v.requests) (sym r.rest))
@@ -198,7 +227,7 @@ module _ {S : Type 0} (app : Application S) (c : Codec S) where
       es = map (λ x. x.entry) r.said.executed
 
       sends : replies_of r.frames ≡ []
-      sends = ap replies_of r.sends.leaves ∙ none_sent c old.start r.sends.packets
+      sends = none_sent r.frames (messages_send app c old.start r.said.bag r.frames r.sends.leave)
 
       executes : replies_of (said_outputs r.frames r.said old.requests.proposed) ≡ replies_of {S = S} (executed_outputs es old.requests.proposed)
       executes =

@@ -12,19 +12,24 @@ use Rattle.raft_answers.specs.Requests.{Open}
 use Rattle.raft_schedule.specs.declared.event.Outcome.{Outcome}
 use Rattle.raft_schedule.specs.declared.event.Outcome.TheVariants.{Done, Refused, Skipped, Stopped}
 use Rattle.raft_codec.specs.Codec.{Codec}
-use Rattle.raft_packed_server.specs.proof_packed.Stores.{Application}
+use Rattle.raft_packed_server.specs.proof_packed.Nodes.{PackedMessage}
+use Rattle.raft_packed_server.specs.proof_packed.Stores.{Application, Packed}
+use Rattle.raft_packed_server.specs.raft_packed_wire.declared.packet.PackedContent.{PackedContent}
+use Rattle.raft_packed_server.specs.raft_packed_wire.declared.packet.PackedContent.TheVariants as content
+use Rattle.raft_packed_server.specs.raft_packed_wire.Messages.{received}
 use Rattle.raft_packed_server.specs.Views.{ServerView}
 use Rattle.raft_state.specs.declared.ids.LogId.{LogId}
 use Rattle.raft_core.specs.declared.frame.Frame.{Frame}
 use Rattle.raft_core.specs.declared.frame.Frame.TheVariants as frames
 use Rattle.raft_core.specs.declared.output.Output.{Output}
 use Rattle.raft_core.specs.Views.{CoreView}
-use Rattle.raft_core.specs.Calls.{Becomes, Proposes, TakesFrame, Ticks, Writes, WritesNow, appended}
+use Rattle.raft_core.specs.Calls.{Becomes, Proposes, TakesContent, TakesFrame, TakesMessage, Ticks, Writes, WritesNow, appended}
 use Rattle.raft_core.specs.Frames.{asked}
 use Rattle.raft_core.specs.Laws.{IsNotOk, NoneIsOk, OnlyReleasesTellOk, replies_of}
 use Rattle.raft_core.specs.Outputs.{lost_left, lost_replies, overdue_replies, reads_out}
+use Rattle.raft_core.specs.Parts.{assembled}
 use Rattle.raft_core.specs.Reads.{read_replies, refused_left, refused_replies, with_heard}
-use Rattle.raft_core.proofs.Told.{before, before_read, behind_read, none_appended, none_asked, none_granted, none_read}
+use Rattle.raft_core.proofs.Told.{before, before_read, behind_read, none_appended, none_asked, none_granted, none_read, none_went}
 
 abbrev pub NoOk : List Reply → Type 0
 NoOk rs = AllByRecursion IsNotOk rs
@@ -81,13 +86,24 @@ module _ {S : Type 0} (app : Application S) (c : Codec S) where
       subst NoOk (sym (ap replies_of a.leaves
       ∙ behind_read (map asked t.asks) (overdue_replies a.lost t.upto old.requests) _ (none_asked S t.asks))) (no_overdue a.lost t.upto old.requests)
 
-  receives_frame : (frame : Frame S) (old new : CoreView S) (out : List (Output S)) → TakesFrame app frame old out new → NoneIsOk out
-  receives_frame (frames.Packet p) old new out r =
-      let a = r.2.answers in
-      let heard = with_heard r.0.message old.reads in
+  takes_message : (m : PackedMessage S) (old new : CoreView S) (out : List (Output S)) → TakesMessage app m old out new → NoneIsOk out
+  takes_message m old new out t =
+      let a = t.answers in
+      let heard = with_heard m.message old.reads in
       let told = refused_replies a.gone heard ++ read_replies old.executed (refused_left a.gone heard) in
       subst NoOk (sym (ap replies_of a.leaves ∙ before (lost_replies a.lost old.requests) (reads_out told) (none_read S told)))
       (no_lost a.lost old.requests)
+
+  receives_content : (x : PackedContent (Packed S)) (old new : CoreView S) (out : List (Output S)) → TakesContent app c x old out new → NoneIsOk out
+  receives_content (content.Message m) old new out t = takes_message (received app m) old new out t
+  receives_content (content.Part x) old new out (inl k) = subst NoOk (sym (ap replies_of k.leaves)) tt
+  receives_content (content.Part x) old new out (inr t) =
+      subst NoOk (sym (ap replies_of t.leaves))
+      (takes_message (record { message = x.message; brought = t.snapshot }) (record old { incoming = assembled t.comes }) new t.others t.takes)
+
+  receives_frame : (frame : Frame S) (old new : CoreView S) (out : List (Output S)) → TakesFrame app c frame old out new → NoneIsOk out
+  receives_frame (frames.Packet p) old new out r = receives_content p.content old new out r
+  receives_frame (frames.PartReply reply) old new out r = subst NoOk (sym (none_went c old.start old.outgoing out r.leaves)) tt
   receives_frame (frames.PreVote ask) old new out r = subst NoOk (sym (ap replies_of r.leaves ∙ none_granted S r.replies)) tt
   receives_frame (frames.PreVoteReply reply) old new out r = subst NoOk (sym (ap replies_of r.leaves)) tt
 

@@ -1,5 +1,5 @@
 -- What each call of a server does: which steps it takes, what it makes of the requests of clients, and what leaves.
-use Rattle.std.specs.Prelude.{ℕ, ◌≡◌, ◌≢◌, ◌⊎◌, Bool, true, List, [], ◌∷◌, ◌++◌, Option, None, Some, Ok, IfSome, map}
+use Rattle.std.specs.Prelude.{ℕ, ◌≡◌, ◌≢◌, ◌⊎◌, Bool, true, Contains, List, [], ◌∷◌, ◌++◌, Option, None, Some, Ok, IfSome, map}
 use Rattle.std.specs.Option.{option_map, option_to_list}
 use Rattle.raft_frames.specs.declared.header.LogId.{LogId as LogName}
 use Rattle.raft_state.specs.declared.ids.LeaderId.{LeaderId}
@@ -16,12 +16,15 @@ use Rattle.raft_node.specs.declared.act.Act.TheVariants as acts
 use Rattle.raft_node.specs.declared.given.Given.{Given}
 use Rattle.raft_store.specs.Types.{EngineView}
 use Rattle.raft_codec.specs.Codec.{Codec}
+use Rattle.raft_chunks.specs.Assembly.{cursor_of, nothing}
 use Rattle.raft_packed_server.specs.proof_packed.Nodes.{PackedMessage, PackedRecords}
 use Rattle.raft_packed_server.specs.proof_packed.Stores.{Application, Packed}
 use Rattle.raft_packed_server.specs.proof_packed_servers.Servers.{PackedServer}
+use Rattle.raft_packed_server.specs.raft_packed_wire.declared.packet.PackedContent.{PackedContent}
 use Rattle.raft_packed_server.specs.raft_packed_wire.declared.packet.PackedContent.TheVariants as content
-use Rattle.raft_packed_server.specs.raft_packed_wire.declared.packet.SentMessage.{SentMessage}
+use Rattle.raft_packed_server.specs.raft_packed_wire.declared.packet.SentPart.{SentPart}
 use Rattle.raft_packed_server.specs.raft_packed_wire.Messages.{received}
+use Rattle.raft_packed_server.specs.raft_packed_wire.Values.{kept}
 use Rattle.raft_packed_server.specs.declared.error.ServerError.{ServerError}
 use Rattle.raft_packed_server.specs.declared.batch.Written.{Written}
 use Rattle.raft_packed_server.specs.declared.serving.Serving.{Serving}
@@ -42,15 +45,17 @@ use Rattle.raft_core.specs.declared.error.FrameError.{FrameError}
 use Rattle.raft_core.specs.declared.error.FrameError.TheVariants.{Core}
 use Rattle.raft_core.specs.declared.frame.Frame.{Frame}
 use Rattle.raft_core.specs.declared.frame.Frame.TheVariants as frames
+use Rattle.raft_core.specs.declared.frame.PartReply.{PartReply}
 use Rattle.raft_core.specs.declared.frame.PreVote.{PreVote}
 use Rattle.raft_core.specs.declared.frame.PreVoteReply.{PreVoteReply}
 use Rattle.raft_core.specs.declared.moves.Move.{Move}
 use Rattle.raft_core.specs.declared.output.Output.{Output}
 use Rattle.raft_core.specs.declared.output.Output.TheVariants as outputs
 use Rattle.raft_core.specs.Views.{CoreView}
-use Rattle.raft_core.specs.Frames.{IsFrame, asked, granted}
+use Rattle.raft_core.specs.Frames.{IsFrame, answered, asked, granted}
 use Rattle.raft_core.specs.Outputs.{Sends, lost_left, lost_replies, overdue_left, overdue_replies, reads_out, replies_out, said_outputs}
 use Rattle.raft_core.specs.Outputs.{settled_all}
+use Rattle.raft_core.specs.Parts.{AreParts, AreWhole, Comes, Outgoing, assembled}
 use Rattle.raft_core.specs.Reads.{ReadsView, handed_after, failed_left, failed_replies, is_free, no_reads, read_left, read_replies, refused_left}
 use Rattle.raft_core.specs.Reads.{refused_replies, with_heard, with_left, with_round}
 use Rattle.raft_core.specs.Steps.{TakesAct, TakesActs, TakesSteps, act_of, step_taking}
@@ -65,6 +70,8 @@ pub record Begins {S : Type 0} (app : Application S) (c : Codec S) (given : Give
   pub requests : o.core.requests ≡ no_requests
   pub executed : o.core.executed ≡ None
   pub reads : o.core.reads ≡ no_reads
+  pub outgoing : o.core.outgoing ≡ []
+  pub incoming : o.core.incoming ≡ nothing 0
 
 -- acts are taken as steps now, and nothing else is done
 pub record Moves {S : Type 0} (app : Application S) (todo : List Act) (old new : CoreView S) : Type 0 where
@@ -159,15 +166,51 @@ pub record Hears {S : Type 0} (app : Application S) (reply : PreVoteReply) (old 
   pub moved : Moves app (map act_of moves) old new
   pub leaves : out ≡ []
 
-abbrev pub TakesFrame : {S : Type 0} → Application S → Frame S → CoreView S → List (Output S) → CoreView S → Type 0
-TakesFrame {S} app (frames.Packet p) old out new =
-    (m : SentMessage (Packed S)) × (p.content ≡ content.Message m) × TakesMessage app (received app m) old out new
-TakesFrame app (frames.PreVote ask) old out new = Answers ask old out new
-TakesFrame app (frames.PreVoteReply reply) old out new = Hears app reply old out new
+-- The answer to a part: where its sender goes on.
+abbrev pub reply_to : {S : Type 0} → (x : SentPart) (old : CoreView S) → Comes x old.incoming → PartReply
+reply_to x old k = record { from = old.id; to = x.message.from; cursor = cursor_of (assembled k) k.piece.at.title }
 
--- the bytes are a frame for this server, which is taken
-abbrev pub Receives : {S : Type 0} → Application S → Codec S → List ℕ → CoreView S → List (Output S) → CoreView S → Type 0
-Receives {S} app c bytes old out new = (frame : Frame S) × IsFrame c bytes frame × TakesFrame app frame old out new
+-- A part is kept: the snapshot isn't whole yet, or the part doesn't fit, or no snapshot has these bytes. No step is taken.
+pub record KeepsPart {S : Type 0} (x : SentPart) (old : CoreView S) (out : List (Output S)) (new : CoreView S) : Type 0 where
+  pub to : x.message.to ≡ old.id
+  pub comes : Comes x old.incoming
+  pub rest : new ≡ record old { incoming = assembled comes }
+  pub leaves : out ≡ answered (reply_to x old comes) ∷ []
+
+-- With it the snapshot is whole: the message is taken, which brings it.
+pub record CompletesSnapshot {S : Type 0} (app : Application S) (c : Codec S) (x : SentPart) (old : CoreView S) (out : List (Output S))
+    (new : CoreView S) : Type 0 where
+  pub comes : Comes x old.incoming
+  pub bytes : List ℕ
+  pub whole : AreWhole comes bytes
+  pub snapshot : Packed S
+  pub fits : (kept c).fits snapshot
+  pub is : bytes ≡ (kept c).bytes snapshot
+  pub others : List (Output S)
+  pub takes : TakesMessage app (record { message = x.message; brought = snapshot }) (record old { incoming = assembled comes }) others new
+  pub leaves : out ≡ answered (reply_to x old comes) ∷ others
+
+-- A server has answered a part: more of the snapshot leaves, or nothing. What is outgoing by then was before.
+pub record GoesOn {S : Type 0} (c : Codec S) (reply : PartReply) (old : CoreView S) (out : List (Output S)) (new : CoreView S) : Type 0 where
+  pub to : reply.to ≡ old.id
+  pub rest : new ≡ record old { outgoing = new.outgoing }
+  pub outgoing : (o : Outgoing) → Contains new.outgoing o → Contains old.outgoing o
+  pub leaves : (out ≡ []) ⊎ ((o : Outgoing) × Contains old.outgoing o × AreParts c old.start o out)
+
+module _ {S : Type 0} (app : Application S) (c : Codec S) where
+  abbrev pub TakesContent : PackedContent (Packed S) → CoreView S → List (Output S) → CoreView S → Type 0
+  TakesContent (content.Message m) old out new = TakesMessage app (received app m) old out new
+  TakesContent (content.Part x) old out new = KeepsPart x old out new ⊎ CompletesSnapshot app c x old out new
+
+  abbrev pub TakesFrame : Frame S → CoreView S → List (Output S) → CoreView S → Type 0
+  TakesFrame (frames.Packet p) old out new = TakesContent p.content old out new
+  TakesFrame (frames.PreVote ask) old out new = Answers ask old out new
+  TakesFrame (frames.PreVoteReply reply) old out new = Hears app reply old out new
+  TakesFrame (frames.PartReply reply) old out new = GoesOn c reply old out new
+
+  -- the bytes are a frame for this server, which is taken
+  abbrev pub Receives : List ℕ → CoreView S → List (Output S) → CoreView S → Type 0
+  Receives bytes old out new = (frame : Frame S) × IsFrame c bytes frame × TakesFrame frame old out new
 
 -- Proposals
 
@@ -282,9 +325,10 @@ module _ {S : Type 0} (app : Application S) (c : Codec S) where
     pub serves : old.server.serving ≢ None
     pub released : new.server.serving ≡ option_map (λ v. (released position v).1) old.server.serving
     pub given : new.server.given ≡ old.server.given
-    pub sends : Sends app c old.start said.bag frames
+    pub sends : Sends app c old.start said.bag old.outgoing frames new.outgoing
     pub rest : new ≡ record old {
       server = new.server;
+      outgoing = new.outgoing;
       requests = settled_all (map (λ x. x.entry) said.executed) old.requests;
       executed = handed_after said old.executed;
       reads = read_left (handed_after said old.executed) (with_left said.answers old.reads);

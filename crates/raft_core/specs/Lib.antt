@@ -3,6 +3,7 @@ pub use Rattle.raft_packed_server.specs.proof_packed_servers
 pub use Rattle.raft_packed_server.specs.raft_packed_wire
 pub mod raft_packed_server
 pub mod Reads
+pub mod Parts
 pub mod Views
 pub mod Steps
 pub mod Frames

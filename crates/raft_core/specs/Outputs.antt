@@ -1,10 +1,11 @@
 -- What leaves.
-use Rattle.std.specs.Prelude.{ℕ, ◌≡◌, Bool, List, [], ◌∷◌, ◌++◌, map, if◌then◌else◌}
-use Rattle.std.specs.List.{AllByRecursion}
+use Rattle.std.specs.Prelude.{ℕ, ◌≡◌, ◌⊎◌, Bool, Contains, List, [], ◌∷◌, ◌++◌, map, if◌then◌else◌}
 use Rattle.raft_answers.specs.declared.answer.Reply.{Reply}
 use Rattle.raft_answers.specs.declared.request.Proposal.{Proposal}
 use Rattle.raft_answers.specs.Answers.{ended, expired, expired_replies, settled, settled_left, settled_replies}
 use Rattle.raft_answers.specs.Requests.{Open}
+use Rattle.raft_calls.specs.declared.message.Body.{Body}
+use Rattle.raft_calls.specs.declared.message.Body.TheVariants.{SnapshotRequest}
 use Rattle.raft_codec.specs.Codec.{Codec}
 use Rattle.raft_store.specs.declared.entry.Entry.{Entry}
 use Rattle.raft_packed_server.specs.proof_packed.Nodes.{PackedInstalled, PackedMessage, PackedRecords}
@@ -16,6 +17,12 @@ use Rattle.raft_packed_server.specs.raft_packed_wire.Messages.{packed_packet, re
 use Rattle.raft_packed_server.specs.raft_packed_wire.Values.{kept}
 use Rattle.raft_core.specs.declared.output.Output.{Output}
 use Rattle.raft_core.specs.declared.output.Output.TheVariants as outputs
+use Rattle.raft_core.specs.Parts.{AreParts, Outgoing, outgoing_of}
+
+-- a request to install a snapshot
+abbrev pub BringsSnapshot : Body → Type 0
+BringsSnapshot (SnapshotRequest origin snapshot) = Unit {0}
+BringsSnapshot _ = ⊥
 
 -- a message in a packet of this start
 abbrev pub packet_of : {P : Type 0} → ℕ → SentMessage P → PackedPacket P
@@ -29,17 +36,37 @@ module _ {S : Type 0} (c : Codec S) where
   abbrev pub sent : ℕ → SentMessage (Packed S) → Output S
   sent start m = outputs.Send m.message.to (packet_frame start m)
 
-  -- each of the messages can be read back
-  abbrev pub AreReadBack : ℕ → List (SentMessage (Packed S)) → Type 0
-  AreReadBack start messages = AllByRecursion (λ m. (packed_packet (kept c)).fits (packet_of start m)) messages
+module _ {S : Type 0} (app : Application S) (c : Codec S) (start : ℕ) where
+  -- A message leaves as a frame, and can be read back: one that brings the snapshot of no entries may have that, or none.
+  pub record LeavesWhole (m : PackedMessage S) (out : List (Output S)) : Type 0 where
+    pub packet : SentMessage (Packed S)
+    pub of_message : received app packet ≡ m
+    pub fits : (packed_packet (kept c)).fits (packet_of start packet)
+    pub leaves : out ≡ sent c start packet ∷ []
 
--- Messages leave as frames: one of a message that brings the snapshot of no entries may have that, or none.
-pub record Sends {S : Type 0} (app : Application S) (c : Codec S) (start : ℕ) (messages : List (PackedMessage S))
-    (out : List (Output S)) : Type 0 where
-  pub packets : List (SentMessage (Packed S))
-  pub of_messages : map (received app) packets ≡ messages
-  pub read_back : AreReadBack c start packets
-  pub leaves : out ≡ map (sent c start) packets
+  -- or it leaves in parts: some of them now, and the others later
+  pub record LeavesInParts (m : PackedMessage S) (out : List (Output S)) : Type 0 where
+    pub brings : BringsSnapshot m.message.body
+    pub fits : (kept c).fits m.brought
+    pub parts : AreParts c start (outgoing_of c m) out
+
+  -- messages leave, in their order
+  abbrev pub LeaveAll : List (PackedMessage S) → List (Output S) → Type 0
+  LeaveAll [] out = out ≡ []
+  LeaveAll (m ∷ ms) out =
+      (front rest : List (Output S)) × (out ≡ front ++ rest) × (LeavesWhole m front ⊎ LeavesInParts m front) × LeaveAll ms rest
+
+  -- a message among these goes out in parts
+  pub record IsBegun (messages : List (PackedMessage S)) (o : Outgoing) : Type 0 where
+    pub message : PackedMessage S
+    pub among : Contains messages message
+    pub fits : (kept c).fits message.brought
+    pub is : o ≡ outgoing_of c message
+
+  -- What messages leave. What is outgoing by then was before, or is one of them.
+  pub record Sends (messages : List (PackedMessage S)) (old : List Outgoing) (out : List (Output S)) (new : List Outgoing) : Type 0 where
+    pub leave : LeaveAll messages out
+    pub outgoing : (o : Outgoing) → Contains new o → Contains old o ⊎ IsBegun messages o
 
 module _ {S : Type 0} where
   abbrev pub install : PackedInstalled S → Output S

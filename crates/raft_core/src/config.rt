@@ -23,11 +23,21 @@ pub struct Config {
     pub peers: PeerLimits,
 }
 
+/// The usual number of bytes of a snapshot that leave in a frame: 1 MiB.
+pub const PART_BYTES: usize = 1 << 20;
+
+/// The usual limit of a snapshot's bytes: 1 TiB.
+pub const SNAPSHOT_BYTES: u64 = 1 << 40;
+
 /// What is taken of peers, and no more.
 #[derive(Clone, Copy, Debug)]
 pub struct PeerLimits {
     /// The most bytes of a frame.
     pub frame_bytes: usize,
+    /// The most bytes of a snapshot that leave in a frame: a larger one leaves in parts.
+    pub part_bytes: usize,
+    /// The most bytes of a snapshot.
+    pub snapshot_bytes: u64,
     /// After how many bytes, of frames taken and of values proposed since no record waited last, frames are refused.
     pub unwritten_bytes: usize,
     /// By how much a term may be above this server's.
@@ -52,6 +62,8 @@ impl Config {
             },
             peers: PeerLimits {
                 frame_bytes: 512 << 20,
+                part_bytes: PART_BYTES,
+                snapshot_bytes: SNAPSHOT_BYTES,
                 unwritten_bytes: 64 << 20,
                 term_jump: 1 << 32,
             },

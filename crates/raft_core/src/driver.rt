@@ -1,13 +1,17 @@
 //! A server with its timers, the requests of its clients, and its limits.
 
-ghost use Rattle.std.specs.Prelude.{◌≡◌, ◌≤◌, ◌∷◌, ◌++◌, [], IfOk, IfErr, IfSome, OnErr, OnOk, Some, map};
+ghost use Rattle.std.specs.Prelude.{◌≡◌, ◌≤◌, ◌⊎◌, ◌∷◌, ◌++◌, [], IfOk, IfErr, IfSome, Ok, OnErr, OnOk, Some, map};
+ghost use Rattle.raft_chunks.specs.Chunks.{piece_of};
+ghost use Rattle.raft_chunks.specs.Form.{opened, piece};
+ghost use Rattle.raft_packed_server.specs.raft_packed_wire.declared.packet.SentPart.{SentPart as Part};
 ghost use Rattle.raft_node.specs.declared.act.Act.TheVariants.{Initialize, Propose};
 ghost use Rattle.raft_store.specs.Types.{EngineView};
 ghost use Rattle.raft_calls.specs.LeaderCalls.{read_answer};
 ghost use Rattle.raft_store.specs.declared.entry.Value.TheVariants.{Bytes};
-ghost use Rattle.raft_core.specs.Calls.{Admits, AdmitsRead, Answers, AnswersAfter, AnswersOverdue, Asks, Becomes, Begins, Hears};
-ghost use Rattle.raft_core.specs.Calls.{IsNextId, IsRefusal, Loses, MayBeginLog, Moves, Proposes, ProposesBatch, Receives, RefusesAll, RefusesReads};
-ghost use Rattle.raft_core.specs.Calls.{Releases, TakesFrame, TakesMessage, Ticks, Writes, appended, engine_in, moment_in};
+ghost use Rattle.raft_core.specs.Calls.{Admits, AdmitsRead, Answers, AnswersAfter, AnswersOverdue, Asks, Becomes, Begins, CompletesSnapshot};
+ghost use Rattle.raft_core.specs.Calls.{GoesOn, Hears, IsNextId, IsRefusal, KeepsPart, Loses, MayBeginLog, Moves, Proposes, ProposesBatch};
+ghost use Rattle.raft_core.specs.Calls.{Receives, RefusesAll, RefusesReads, Releases, TakesFrame, TakesMessage, Ticks, Writes, appended};
+ghost use Rattle.raft_core.specs.Calls.{engine_in, moment_in};
 ghost use Rattle.raft_core.specs.Outputs.{reads_out, replies_out};
 ghost use Rattle.raft_core.specs.Reads.{with_heard};
 ghost use Rattle.raft_core.specs.Steps.{TakesAct};
@@ -17,27 +21,31 @@ use crate::clock::Clock;
 use crate::config::{Config, PeerLimits};
 use crate::election::answer;
 use crate::error::{CoreError, FrameError, RequestError};
-use crate::frame::{Frame, PreVote, PreVoteReply, ask_all, grant_all, read_frame, term_of};
+use crate::frame::{
+    Frame, PartReply, PreVote, PreVoteReply, answer_part, ask_all, grant_all, read_frame, term_of,
+};
 use crate::length::LogLength;
 use crate::membership::Target;
 use crate::moves::Move;
 use crate::node::{engine_of, is_building, next_id, other_leader};
 use crate::output::{Output, push};
+use crate::parts::{Incoming, Outgoing, go_on, keep_of};
 use crate::policy::{Plan, Policy};
 use crate::reads::{Question, Reader, Reads};
-use crate::release::{leave, read_all, reply_all};
+use crate::release::{Sender, leave, read_all, reply_all};
 use crate::steps::{take, take_all, take_with};
 use raft_answers::{
     Answer, Batch, Limits, Operation, Place, Reply, Request, Requests, Token, fail,
 };
 use raft_calls::lead::read_answer;
 use raft_calls::message::Message;
+use raft_chunks::{Chunk, Title};
 use raft_frames::LogId as LogName;
 use raft_node::act::Act;
 use raft_node::given::Given;
 use raft_packed_server::raft_packed::{Machine, Packed};
 use raft_packed_server::raft_packed_node::{PackedAct, PackedMessage, StepError};
-use raft_packed_server::raft_packed_wire::{PackedContent, PackedPacket};
+use raft_packed_server::raft_packed_wire::{PackedContent, PackedPacket, SentPart};
 use raft_packed_server::{OpenError, Server, Written};
 use raft_progress::Joint;
 use raft_schedule::event::Outcome;
@@ -76,6 +84,9 @@ pub struct RaftCore<M: Machine> {
     /// How many bytes were taken and proposed since no record waited last.
     unwritten: usize,
     log: LogLength,
+    /// The messages whose snapshots go out in parts: one for each server.
+    outgoing: Vec<Outgoing>,
+    incoming: Incoming,
 }
 
 impl<M: Machine> Model for RaftCore<M> {
@@ -91,6 +102,8 @@ impl<M: Machine> Model for RaftCore<M> {
       requests = s.clients.requests;
       executed = s.executed;
       reads = s.clients.reads;
+      outgoing = s.outgoing.items;
+      incoming = s.incoming.assembly;
     } };
 }
 
@@ -146,6 +159,11 @@ fn plan<M: Machine>(
 /// The leader id under which requests are taken.
 fn leads<M: Machine>(policy: &Policy, server: &Server<M>) -> Option<LeaderId<u64>> {
     policy.leads(engine_of(server)?)
+}
+
+/// The term of the leader id under which requests are taken.
+fn lead_term<M: Machine>(policy: &Policy, server: &Server<M>) -> Option<u64> {
+    Some(leads(policy, server)?.term)
 }
 
 /// Another server that leads, as far as this one knows.
@@ -511,6 +529,8 @@ impl<M: Machine> RaftCore<M> {
                 writing: None,
                 unwritten: 0,
                 log: LogLength::new(opened.end as u64, config.log_bytes),
+                outgoing: Vec::new(alloc),
+                incoming: Incoming::new(alloc),
             },
             applied,
             end: opened.end,
@@ -749,13 +769,19 @@ impl<M: Machine> RaftCore<M> {
     {
         let said = self.server.flushed(position)?;
         self.note_flushed(position);
+        keep_of(lead_term(&self.policy, &self.server), &mut self.outgoing);
+        let sender = Sender {
+            start: self.start,
+            most: self.peers.part_bytes,
+        };
         Ok(leave(
             self.alloc,
-            self.start,
+            sender,
             said,
             &mut self.clients.requests,
             &mut self.executed,
             &mut self.clients.reads,
+            &mut self.outgoing,
         )?)
     }
 
@@ -766,7 +792,7 @@ impl<M: Machine> RaftCore<M> {
     /// - `Busy`: too many bytes wait to be written,
     /// - `Decode`: they are no frame,
     /// - `Misdirected`: they are for another server,
-    /// - `Chunk`: they are a chunk of a snapshot,
+    /// - `Stale`: they are a part of a snapshot of a term that is over,
     /// - `TermJump`: their term is further above this server's than elections explain.
     pub fn receive(&mut self, bytes: &[u8]) -> Result<Vec<Output<M>>, FrameError>
         ensures ok { IfOk result (λ outputs. Receives M.application M.codec bytes.now self.old outputs.items self.new) }
@@ -782,6 +808,7 @@ impl<M: Machine> RaftCore<M> {
             Frame::Packet(packet) => self.take_packet(packet, bytes.len()),
             Frame::PreVote(ask) => self.take_pre_vote(&ask),
             Frame::PreVoteReply(reply) => self.take_pre_vote_reply(&reply),
+            Frame::PartReply(reply) => self.take_part_reply(&reply),
         }
     }
 
@@ -824,23 +851,27 @@ impl<M: Machine> RaftCore<M> {
         packet: PackedPacket<Packed<M>>,
         len: usize,
     ) -> Result<Vec<Output<M>>, FrameError>
-        ensures ok { IfOk result (λ outputs. TakesFrame M.application (frames.Packet packet) self.old outputs.items self.new) }
+        ensures ok { IfOk result (λ outputs. TakesFrame M.application M.codec (frames.Packet packet) self.old outputs.items self.new) }
         ensures err { IfErr result (λ e. IsRefusal e → self.new ≡ self.old) }
     {
         match packet.content {
             PackedContent::Message(message) => self.take_message(message.into_message(), len),
-            PackedContent::Chunk(_) => Err(FrameError::Chunk),
+            PackedContent::Part(part) => self.take_part(part),
         }
     }
 
-    /// Refuses a message of a packet of so many bytes, or hears who sent it.
-    fn hear_message(&mut self, message: &Message, len: usize) -> Result<(), FrameError>
-        ensures to { OnOk result (message.now.to ≡ self.old.id) }
-        ensures heard { OnOk result (self.new ≡ record self.old { reads = with_heard message.now self.old.reads }) }
-        ensures err { IfErr result (λ e. IsRefusal e → self.new ≡ self.old) }
+    /// Refuses a message.
+    fn check_message(&self, message: &Message) -> Result<(), FrameError>
+        ensures { OnOk result (message.now.to ≡ self.now.id) }
     {
         self.check_to(message.to)?;
-        self.check_term(term_of(&message.body))?;
+        self.check_term(term_of(&message.body))
+    }
+
+    /// Hears who sent a message of a packet of so many bytes.
+    fn hear_message(&mut self, message: &Message, len: usize) -> Result<(), CoreError>
+        ensures { OnOk result (self.new ≡ record self.old { reads = with_heard message.now self.old.reads }) }
+    {
         self.hear(message.from)?;
         self.unwritten = self.unwritten.saturating_add(len);
         self.clients.reads.hear(message)?;
@@ -856,6 +887,19 @@ impl<M: Machine> RaftCore<M> {
         ensures ok { IfOk result (λ outputs. TakesMessage M.application message self.old outputs.items self.new) }
         ensures err { IfErr result (λ e. IsRefusal e → self.new ≡ self.old) }
     {
+        self.check_message(&message.message)?;
+        Ok(self.take_checked(message, len)?)
+    }
+
+    /// Takes a message for this server, of so many bytes.
+    fn take_checked(
+        &mut self,
+        message: PackedMessage<M>,
+        len: usize,
+    ) -> Result<Vec<Output<M>>, CoreError>
+        requires { message.message.to ≡ self.old.id }
+        ensures { IfOk result (λ outputs. TakesMessage M.application message self.old outputs.items self.new) }
+    {
         self.hear_message(&message.message, len)?;
         take_with(&mut self.server, PackedAct::take(message), &self.clock)?;
         Ok(answer_after(
@@ -865,6 +909,87 @@ impl<M: Machine> RaftCore<M> {
             self.executed,
             &mut self.clients,
         )?)
+    }
+
+    /// Refuses a part of a snapshot: of a term that is over, or of too many bytes.
+    fn check_part(&self, message: &Message, title: &Title) -> Result<(), FrameError>
+        ensures { OnOk result (message.now.to ≡ self.now.id) }
+    {
+        self.check_message(message)?;
+        let term = term_of(&message.body);
+        if let Some(engine) = engine_of(&self.server)
+            && term < engine.state.vote.leader_id.term
+        {
+            return Err(FrameError::Stale { term });
+        }
+        if title.len > self.peers.snapshot_bytes {
+            return Err(FrameError::TooLarge);
+        }
+        Ok(())
+    }
+
+    /// Takes a part of a snapshot, and with the last one its message. Its sender is told where to go on.
+    fn take_part(&mut self, part: SentPart) -> Result<Vec<Output<M>>, FrameError>
+        ensures ok { IfOk result (λ outputs. KeepsPart part self.old outputs.items self.new
+            ⊎ CompletesSnapshot M.application M.codec part self.old outputs.items self.new) }
+        ensures err { IfErr result (λ e. IsRefusal e → self.new ≡ self.old) }
+    {
+        let SentPart { message, chunk } = part;
+        let chunk = Chunk::decode(self.alloc, chunk.as_slice()).map_err(FrameError::Decode)?;
+        self.check_part(&message, &chunk.at.title)?;
+        Ok(self.take_chunk(message, &chunk)?)
+    }
+
+    /// Takes a chunk of the snapshot of a message, and with the last one the message.
+    fn take_chunk(
+        &mut self,
+        message: Message,
+        chunk: &Chunk<'_>,
+    ) -> Result<Vec<Output<M>>, CoreError>
+        requires { message.to ≡ self.old.id }
+        ensures { IfOk result (λ outputs. (x : Part) → x.message ≡ message → opened piece x.chunk ≡ Ok (piece_of chunk.now)
+            → KeepsPart x self.old outputs.items self.new ⊎ CompletesSnapshot M.application M.codec x self.old outputs.items self.new) }
+    {
+        self.hear(message.from)?;
+        self.incoming.hear(self.alloc, &message, chunk.at.title);
+        let found = self.incoming.take(self.alloc, chunk)?;
+        let mut outputs = Vec::new(self.alloc);
+        let reply = PartReply {
+            from: self.id,
+            to: message.from,
+            cursor: self.incoming.assembly.cursor(chunk.at.title),
+        };
+        answer_part(self.alloc, &reply, &mut outputs)?;
+        let Some(snapshot) = found else {
+            return Ok(outputs);
+        };
+        self.incoming.complete(&message);
+        let len = chunk.at.title.len as usize;
+        let snapshot = Some(snapshot);
+        let mut others = self.take_checked(PackedMessage { message, snapshot }, len)?;
+        outputs.append(&mut others)?;
+        Ok(outputs)
+    }
+
+    /// Takes the answer to a part: the next one leaves.
+    fn take_part_reply(&mut self, reply: &PartReply) -> Result<Vec<Output<M>>, FrameError>
+        ensures ok { IfOk result (λ outputs. GoesOn M.codec reply.now self.old outputs.items self.new) }
+        ensures err { IfErr result (λ e. IsRefusal e → self.new ≡ self.old) }
+    {
+        self.check_to(reply.to)?;
+        self.hear(reply.from)?;
+        self.policy.hear_part(reply.from, &self.clock);
+        let mut outputs = Vec::new(self.alloc);
+        go_on(
+            self.alloc,
+            self.start,
+            self.peers.part_bytes,
+            reply.from,
+            &reply.cursor,
+            &mut self.outgoing,
+            &mut outputs,
+        )?;
+        Ok(outputs)
     }
 
     /// Answers whether this server would elect another.

@@ -62,9 +62,9 @@ pub enum FrameError {
     /// They are for another server.
     #[error("for server {to}")]
     Misdirected { to: u64 },
-    /// They are a chunk of a snapshot, which this server doesn't take.
-    #[error("a chunk of a snapshot")]
-    Chunk,
+    /// They are a part of a snapshot of a term that is over.
+    #[error("a part of term {term}, which is over")]
+    Stale { term: u64 },
     /// Their term is further above this server's than elections explain.
     #[error("term {term} is too far above {own}")]
     TermJump { term: u64, own: u64 },

@@ -1,11 +1,16 @@
-//! Frames between servers: packets, and the messages by which a server asks whether it would be elected.
+//! Frames between servers: packets; and beside them the messages by which a server asks whether it would be elected, and those that say
+//! where the parts of a snapshot are to go on.
 
 ghost use Rattle.std.specs.Prelude.{◌≡◌, ◌++◌, ◌∷◌, [], IfOk, OnOk, map};
 ghost use Rattle.std.specs.Option.{option_map, option_to_list};
-ghost use Rattle.raft_core.specs.Frames.{IsFrame, ask_bytes, asked, grant_bytes, granted};
+ghost use Rattle.raft_packed_server.specs.raft_packed_wire.Messages.{packed_packet};
+ghost use Rattle.raft_packed_server.specs.raft_packed_wire.Values.{kept};
+ghost use Rattle.raft_core.specs.Frames.{IsFrame, answered, ask_bytes, asked, grant_bytes, granted, part_reply_bytes};
 
 use crate::output::{Output, push};
 use raft_calls::message::{Body, Origin};
+use raft_chunks::Cursor;
+use raft_codec::write_raw;
 use raft_command::AppendEntriesResponse;
 use raft_packed_server::raft_packed::{Machine, Packed};
 use raft_packed_server::raft_packed_wire::PackedPacket;
@@ -32,12 +37,21 @@ pub struct PreVoteReply {
     pub granted: bool,
 }
 
+/// The answer to a part of a snapshot: where it goes on.
+#[derive(Clone, Copy)]
+pub struct PartReply {
+    pub from: u64,
+    pub to: u64,
+    pub cursor: Cursor,
+}
+
 /// What one server sends another.
 #[derive(Drop)]
 pub enum Frame<M: Machine> {
     Packet(PackedPacket<Packed<M>>),
     PreVote(PreVote),
     PreVoteReply(PreVoteReply),
+    PartReply(PartReply),
 }
 
 fn read_pre_vote(reader: &mut Reader<'_>) -> Result<PreVote, DecodeError> {
@@ -68,6 +82,15 @@ fn read_pre_vote_reply(reader: &mut Reader<'_>) -> Result<PreVoteReply, DecodeEr
     })
 }
 
+fn read_part_reply(alloc: Global, bytes: &[u8]) -> Result<PartReply, DecodeError> {
+    let mut reader = Reader::new(alloc, bytes);
+    let from = reader.number()?;
+    let to = reader.number()?;
+    let cursor = Cursor::decode(alloc, reader.raw()?)?;
+    reader.end()?;
+    Ok(PartReply { from, to, cursor })
+}
+
 /// The frame that these bytes are.
 pub fn read_frame<M: Machine>(alloc: Global, bytes: &[u8]) -> Result<Frame<M>, DecodeError>
     ensures { IfOk result (λ frame. IsFrame M.codec bytes.now frame) }
@@ -78,11 +101,26 @@ pub fn read_frame<M: Machine>(alloc: Global, bytes: &[u8]) -> Result<Frame<M>, D
         [2, rest @ ..] => Ok(Frame::PreVoteReply(read_pre_vote_reply(&mut Reader::new(
             alloc, rest,
         ))?)),
+        [3, rest @ ..] => Ok(Frame::PartReply(read_part_reply(alloc, rest)?)),
         _ => Err(DecodeError::Malformed {
             fault: Fault::UnknownTag,
             left: bytes.len(),
         }),
     }
+}
+
+/// The bytes of a packet.
+pub fn packet_bytes<M: Machine>(
+    alloc: Global,
+    packet: &PackedPacket<Packed<M>>,
+) -> Result<Items<u8>, AllocError>
+    ensures bytes { IfOk result (λ bytes. bytes ≡ 0 ∷ (packed_packet (kept M.codec)).bytes packet.now) }
+    ensures fits { OnOk result ((packed_packet (kept M.codec)).fits packet.now) }
+{
+    let mut bytes = Vec::new(alloc);
+    bytes.push(0)?;
+    packet.write(&mut bytes)?;
+    Ok(Items::from_vec(bytes))
 }
 
 /// The bytes of a question.
@@ -167,6 +205,33 @@ pub fn grant_all<M: Machine>(
         Some(reply) => grant(alloc, &reply, outputs),
         None => Ok(()),
     }
+}
+
+/// The bytes of an answer to a part.
+fn part_reply_bytes(alloc: Global, reply: &PartReply) -> Result<Items<u8>, AllocError>
+    ensures { IfOk result (λ bytes. bytes ≡ part_reply_bytes reply.now) }
+{
+    let mut cursor = Vec::new(alloc);
+    reply.cursor.encode(&mut cursor)?;
+    let mut bytes = Vec::new(alloc);
+    bytes.push(3)?;
+    reply.from.write(&mut bytes)?;
+    reply.to.write(&mut bytes)?;
+    write_raw(&mut bytes, &cursor)?;
+    Ok(Items::from_vec(bytes))
+}
+
+/// An answer to a part leaves.
+pub fn answer_part<M: Machine>(
+    alloc: Global,
+    reply: &PartReply,
+    outputs: &mut Vec<Output<M>>,
+) -> Result<(), AllocError>
+    ensures { OnOk result (outputs.new.items ≡ outputs.old.items ++ answered reply.now ∷ []) }
+{
+    let to = reply.to;
+    let bytes = part_reply_bytes(alloc, reply)?;
+    push(Output::Send { to, bytes }, outputs)
 }
 
 /// The term of a request's leader.

@@ -119,6 +119,15 @@ impl Lead {
         Ok(())
     }
 
+    /// A target has answered a part of the snapshot that is in flight to it: that goes on.
+    pub fn hear_part(&mut self, from: u64, clock: &Clock) {
+        for flight in &mut self.flights {
+            if flight.target == from {
+                flight.since = clock.moment;
+            }
+        }
+    }
+
     /// Whether a quorum was heard within the lease, this server included.
     fn hears_quorum(
         &self,

@@ -26,8 +26,9 @@
 //!
 //! # What isn't there
 //!
-//! Snapshots in chunks: each is kept and sent whole. A message has a snapshot, or as many entries as the settings'
-//! `max_payload_entries`, each with a value of at most `value_bytes`: together they are to be less than `frame_bytes`. A server
+//! Snapshots in pieces on disk: each is encoded, decoded and kept whole. It leaves in parts, of at most `part_bytes`, and one that is
+//! interrupted goes on from where it was. A message has as many entries as the settings' `max_payload_entries`, each with a value of at
+//! most `value_bytes`: together they are to be less than `frame_bytes`, and so is a part with its message. A server
 //! whose records have more than [`MAX_FRAME`](raft_frames::MAX_FRAME) bytes, as those of a larger snapshot, stops. Which bytes wait
 //! for a peer the caller knows alone.
 #![tactic(auto)]
@@ -48,12 +49,13 @@ mod membership;
 mod moves;
 mod node;
 mod output;
+mod parts;
 mod policy;
 mod reads;
 mod release;
 mod steps;
 
-pub use config::{Config, PeerLimits};
+pub use config::{Config, PART_BYTES, PeerLimits, SNAPSHOT_BYTES};
 pub use driver::{OpenedCore, RaftCore};
 pub use error::{CoreError, FrameError, RequestError};
 pub use laws::{

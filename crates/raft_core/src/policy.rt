@@ -95,6 +95,11 @@ impl Policy {
         self.lead.hear(engine, from, clock)
     }
 
+    /// A server has answered a part of the snapshot that is sent to it.
+    pub fn hear_part(&mut self, from: u64, clock: &Clock) {
+        self.lead.hear_part(from, clock);
+    }
+
     /// Another server has answered whether it would elect this one: it stands once a quorum would.
     pub fn stands(
         &mut self,

@@ -1,43 +1,28 @@
 //! What leaves once steps wait for no record.
 
-ghost use Rattle.std.specs.Prelude.{◌≡◌, ◌++◌, ◌∷◌, [], IfOk, List, None, OnOk, map};
+ghost use Rattle.std.specs.Prelude.{◌≡◌, ◌⊎◌, ◌++◌, ◌∷◌, [], Contains, IfOk, IfSome, List, None, OnOk, Some, map};
 ghost use Rattle.raft_answers.specs.Answers.{settled};
 ghost use Rattle.raft_core.specs.declared.output.Output.{Output};
 ghost use Rattle.raft_packed_server.specs.raft_packed_wire.Messages.{packed_packet};
 ghost use Rattle.raft_packed_server.specs.raft_packed_wire.Values.{kept};
-ghost use Rattle.raft_core.specs.Outputs.{Sends, executed_out, executed_outputs, install, packet_frame, packet_of, reads_out};
+ghost use Rattle.raft_core.specs.Outputs.{BringsSnapshot, IsBegun, LeavesInParts, LeavesWhole, Sends, executed_out, executed_outputs, install};
+ghost use Rattle.raft_core.specs.Outputs.{packet_of, reads_out};
+ghost use Rattle.raft_core.specs.Parts.{Outgoing as Going, outgoing_of};
 ghost use Rattle.raft_core.specs.Outputs.{replies_out, said_outputs, sent, settled_all};
 ghost use Rattle.raft_core.specs.Reads.{executed_after, handed_after, read_left, read_replies, with_left};
 
+use crate::frame::packet_bytes;
 use crate::output::{Output, push};
+use crate::parts::{Outgoing, begin, snapshot_bytes};
 use crate::reads::Reads;
 use raft_answers::{Reply, Requests};
+use raft_calls::message::Body;
 use raft_node::record::Executed;
 use raft_packed_server::Said;
 use raft_packed_server::raft_packed::{Machine, Packed};
 use raft_packed_server::raft_packed_node::{PackedInstalled, PackedMessage};
 use raft_packed_server::raft_packed_wire::{PackedContent, PackedPacket, SentMessage};
-use raft_state::Items;
 use std::alloc::{AllocError, Global};
-
-/// The bytes of a message in a packet of this start.
-fn packet_bytes<M: Machine>(
-    alloc: Global,
-    start: u64,
-    message: SentMessage<Packed<M>>,
-) -> Result<Items<u8>, AllocError>
-    ensures bytes { IfOk result (λ bytes. bytes ≡ packet_frame M.codec start message) }
-    ensures fits { OnOk result ((packed_packet (kept M.codec)).fits (packet_of start message)) }
-{
-    let packet = PackedPacket {
-        start,
-        content: PackedContent::Message(message),
-    };
-    let mut bytes = Vec::new(alloc);
-    bytes.push(0)?;
-    packet.write(&mut bytes)?;
-    Ok(Items::from_vec(bytes))
-}
 
 /// A message leaves as a frame.
 fn send<M: Machine>(
@@ -50,22 +35,86 @@ fn send<M: Machine>(
     ensures fits { OnOk result ((packed_packet (kept M.codec)).fits (packet_of start message)) }
 {
     let to = message.message.to;
-    let bytes = packet_bytes(alloc, start, message)?;
+    let packet = PackedPacket {
+        start,
+        content: PackedContent::Message(message),
+    };
+    let bytes = packet_bytes(alloc, &packet)?;
     push(Output::Send { to, bytes }, outputs)
 }
 
-/// Messages leave in packets.
-fn send_all<M: Machine>(
+/// From where a server sends, and how much at a time.
+#[derive(Clone, Copy)]
+pub struct Sender {
+    /// The moment of its start.
+    pub start: u64,
+    /// The most bytes of a snapshot that leave in a frame.
+    pub most: usize,
+}
+
+/// The snapshot that a request to install brings.
+fn brought<M: Machine>(message: &PackedMessage<M>) -> Option<&Packed<M>>
+    ensures { IfSome result (λ p. BringsSnapshot message.now.message.body × (p.now ≡ message.now.brought)) }
+{
+    match (&message.message.body, &message.snapshot) {
+        (Body::SnapshotRequest { .. }, Some(snapshot)) => Some(snapshot),
+        _ => None,
+    }
+}
+
+/// A message as it goes out in parts, if it brings a snapshot of more than so many bytes.
+fn outgoing<M: Machine>(
     alloc: Global,
-    start: u64,
-    messages: Vec<PackedMessage<M>>,
+    most: usize,
+    message: &PackedMessage<M>,
+) -> Result<Option<Outgoing>, AllocError>
+    ensures { IfOk result (λ found. IfSome found (λ o. (o ≡ outgoing_of M.codec message.now)
+        × BringsSnapshot message.now.message.body × (kept M.codec).fits message.now.brought)) }
+{
+    let Some(snapshot) = brought(message) else {
+        return Ok(None);
+    };
+    let bytes = snapshot_bytes(alloc, snapshot)?;
+    if bytes.len() <= most {
+        return Ok(None);
+    }
+    let copied = message.message.copy(alloc)?;
+    Ok(Some(Outgoing::new(copied, snapshot.end(), bytes)))
+}
+
+/// A message leaves in a packet; or it begins to go out in parts.
+fn send_one<M: Machine>(
+    alloc: Global,
+    sender: Sender,
+    message: PackedMessage<M>,
+    going: &mut Vec<Outgoing>,
     outputs: &mut Vec<Output<M>>,
 ) -> Result<(), AllocError>
-    ensures { OnOk result ((frames : List (Output M)) × Sends M.application M.codec start messages.items frames
+    ensures leaves { OnOk result ((out : List (Output M)) × (outputs.new.items ≡ outputs.old.items ++ out)
+        × (LeavesWhole M.application M.codec sender.start message out ⊎ LeavesInParts M.application M.codec sender.start message out)) }
+    ensures going { OnOk result ((o : Going) → Contains going.new.items o
+        → Contains going.old.items o ⊎ IsBegun M.application M.codec sender.start (message ∷ []) o) }
+{
+    match outgoing(alloc, sender.most, &message)? {
+        Some(one) => begin(alloc, sender.start, sender.most, one, going, outputs),
+        None => send(alloc, sender.start, SentMessage::new(message), outputs),
+    }
+}
+
+/// Messages leave in packets, or begin to go out in parts.
+fn send_all<M: Machine>(
+    alloc: Global,
+    sender: Sender,
+    messages: Vec<PackedMessage<M>>,
+    going: &mut Vec<Outgoing>,
+    outputs: &mut Vec<Output<M>>,
+) -> Result<(), AllocError>
+    ensures { OnOk result ((frames : List (Output M))
+        × Sends M.application M.codec sender.start messages.items going.old.items frames going.new.items
         × (outputs.new.items ≡ outputs.old.items ++ frames)) }
 {
     for message in messages {
-        send(alloc, start, SentMessage::new(message), outputs)?;
+        send_one(alloc, sender, message, going, outputs)?;
     }
     Ok(())
 }
@@ -178,18 +227,20 @@ fn execute_all<M: Machine>(
 /// them.
 fn release<M: Machine>(
     alloc: Global,
-    start: u64,
+    sender: Sender,
     said: Said<M>,
     requests: &mut Requests,
+    going: &mut Vec<Outgoing>,
 ) -> Result<Vec<Output<M>>, AllocError>
     ensures left { OnOk result (requests.new ≡ settled_all (map (λ x. x.entry) said.executed) requests.old) }
-    ensures outputs { IfOk result (λ outputs. (frames : List (Output M)) × Sends M.application M.codec start said.bag frames
+    ensures outputs { IfOk result (λ outputs. (frames : List (Output M))
+        × Sends M.application M.codec sender.start said.bag going.old.items frames going.new.items
         × (outputs.items ≡ said_outputs frames said requests.old.proposed)) }
 {
     let Said { batch, rest } = said;
     let mut outputs = Vec::new(alloc);
-    send_all(alloc, start, batch.messages, &mut outputs)?;
-    send_all(alloc, start, rest.messages, &mut outputs)?;
+    send_all(alloc, sender, batch.messages, going, &mut outputs)?;
+    send_all(alloc, sender, rest.messages, going, &mut outputs)?;
     install_all(batch.installed, &mut outputs)?;
     install_all(rest.installed, &mut outputs)?;
     execute_all(alloc, batch.executed, requests, &mut outputs)?;
@@ -210,23 +261,25 @@ fn note_answers<M: Machine>(said: &Said<M>, reads: &mut Reads)
 /// last entry that was handed out, if no snapshot was installed with it or after it.
 pub fn leave<M: Machine>(
     alloc: Global,
-    start: u64,
+    sender: Sender,
     said: Said<M>,
     requests: &mut Requests,
     executed: &mut Option<u64>,
     reads: &mut Reads,
+    going: &mut Vec<Outgoing>,
 ) -> Result<Vec<Output<M>>, AllocError>
     ensures requests { OnOk result (requests.new ≡ settled_all (map (λ x. x.entry) said.executed) requests.old) }
     ensures executed { OnOk result (executed.new ≡ handed_after said executed.old) }
     ensures reads { OnOk result (reads.new ≡ read_left (handed_after said executed.old) (with_left said.answers reads.old)) }
-    ensures outputs { IfOk result (λ outputs. (frames : List (Output M)) × Sends M.application M.codec start said.bag frames
+    ensures outputs { IfOk result (λ outputs. (frames : List (Output M))
+        × Sends M.application M.codec sender.start said.bag going.old.items frames going.new.items
         × (outputs.items ≡ said_outputs frames said requests.old.proposed
         ++ reads_out (read_replies (handed_after said executed.old) (with_left said.answers reads.old)))) }
 {
     let last = handed_after(&said, *executed);
     *executed = last;
     note_answers(&said, reads);
-    let mut outputs = release(alloc, start, said, requests)?;
+    let mut outputs = release(alloc, sender, said, requests, going)?;
     let mut told = Vec::new(alloc);
     reads.answer(last, &mut told)?;
     read_all(told, &mut outputs)?;

@@ -1,17 +1,21 @@
 -- The codecs of messages that may bring a snapshot, and of packets, are inverse to their writers; so each of this crate is.
 use Rattle.std.proofs.Common.{ℕ, ◌≡◌, ◌<◌, eqb, List, ◌++◌, length, Ok, refl, inl, inr, arith}
-use Rattle.raft_codec.specs.Codec.{Codec, IsCodec, number, optional, pair, tag_at}
-use Rattle.raft_codec.specs.CodecLaws.{Stands, bind_ok, chosen, number_is, optional_is, pair_is, by_parts_is}
+use Rattle.raft_codec.specs.Codec.{Codec, IsCodec, number, optional, pair, raw, tag_at}
+use Rattle.raft_codec.specs.CodecLaws.{Stands, bind_ok, chosen, number_is, optional_is, raw_is, pair_is, by_parts_is}
 use Rattle.raft_codec.specs.VariantLaws.{variant_stands}
-use Rattle.raft_wire.specs.Messages.{chunk, message}
-use Rattle.raft_wire.specs.MessageLaws.{chunk_is, message_is}
+use Rattle.raft_wire.specs.Messages.{message}
+use Rattle.raft_wire.specs.MessageLaws.{message_is}
 use Rattle.raft_packed_wire.specs.declared.packet.PackedContent.{PackedContent}
 use Rattle.raft_packed_wire.specs.declared.packet.PackedContent.TheVariants as carried
 use Rattle.raft_packed_wire.specs.Laws.{AreReadBackOf}
-use Rattle.raft_packed_wire.specs.Messages.{packed_content, packed_packet, sent_message}
+use Rattle.raft_packed_wire.specs.Messages.{packed_content, packed_packet, sent_message, sent_part}
 use Rattle.raft_packed_wire.specs.Values.{kept}
 use Rattle.raft_packed_wire.proofs.RecordLaws.{named_began_is, named_logged_is, packed_change_is}
 use Rattle.raft_packed_wire.proofs.ValueLaws.{kept_is}
+
+sent_part_is : IsCodec sent_part
+unfolding sent_part
+sent_part_is = by_parts_is _ _ _ (λ x. refl) (λ q. refl) (pair_is message raw message_is raw_is)
 
 module _ {P : Type 0} (c : Codec P) (h : IsCodec c) where
   pub sent_message_is : IsCodec (sent_message c)
@@ -21,12 +25,12 @@ module _ {P : Type 0} (c : Codec P) (h : IsCodec c) where
   content_some : (x : PackedContent P) → 0 < length ((packed_content c).bytes x)
   unfolding packed_content
   content_some (carried.Message m) = omega arith
-  content_some (carried.Chunk x) = omega arith
+  content_some (carried.Part x) = omega arith
 
   content_back : (x : PackedContent P) (rest : List ℕ) → (packed_content c).fits x → (packed_content c).read ((packed_content c).bytes x ++ rest) ≡ Ok (x, rest)
   unfolding packed_content tag_at
   content_back (carried.Message m) rest f = rw (sent_message_is.read_back m rest f) refl
-  content_back (carried.Chunk x) rest f = rw (chunk_is.read_back x rest f) refl
+  content_back (carried.Part x) rest f = rw (sent_part_is.read_back x rest f) refl
 
   content_written : (front : List ℕ) (found : PackedContent P × List ℕ) → (packed_content c).read front ≡ Ok found → Stands (packed_content c) front found
   unfolding packed_content
@@ -36,7 +40,7 @@ module _ {P : Type 0} (c : Codec P) (h : IsCodec c) where
       elim (chosen (eqb t.0.0 0) _ _ _ t.2) [
         | inl k ↦ variant_stands whole front found t.0 0 (sent_message c) sent_message_is carried.Message t.1 k.0 k.1 (λ x f. f) (λ x. refl)
         | inr k ↦ elim (chosen (eqb t.0.0 1) _ _ _ k.1) [
-          | inl l ↦ variant_stands whole front found t.0 1 chunk chunk_is carried.Chunk t.1 l.0 l.1 (λ x f. f) (λ x. refl)
+          | inl l ↦ variant_stands whole front found t.0 1 sent_part sent_part_is carried.Part t.1 l.0 l.1 (λ x f. f) (λ x. refl)
           | inr l ↦ absurd cc
         ]
       ]

@@ -20,6 +20,6 @@ pub use checkpoint::write_checkpoint;
 pub use laws::{checkpoints_restore, packs_replays, records_are_read_back};
 pub use named::Named;
 pub use packed::{read_packed, write_packed};
-pub use packet::{PackedContent, PackedPacket, SentMessage};
+pub use packet::{PackedContent, PackedPacket, SentMessage, SentPart};
 pub use record::{NamedRecord, PackedBegan, PackedChange, PackedRecord, write_built};
 pub use step::write_change;

@@ -2,15 +2,16 @@
 
 ghost use Rattle.std.specs.Prelude.{◌≡◌, IfOk};
 ghost use Rattle.raft_codec.specs.Codec.{IsFound, Reads, Writes, optional};
-ghost use Rattle.raft_packed_wire.specs.Messages.{packed_content, packed_packet, received, sent_message};
+ghost use Rattle.raft_packed_wire.specs.Messages.{packed_content, packed_packet, received, sent_message, sent_part};
 ghost use Rattle.raft_packed_wire.specs.Values.{kept};
 
 use crate::packed::{read_packed, write_packed};
-use raft_codec::{DecodeError, Reader};
+use raft_codec::{DecodeError, Reader, write_raw};
 use raft_packed_node::PackedMessage;
 use raft_packed_node::raft_packed::{Machine, Packed};
+use raft_state::Items;
+use raft_wire::Wire;
 use raft_wire::raft_calls::message::Message;
-use raft_wire::{Chunk, Wire};
 use std::alloc::{AllocError, Global};
 
 /// A message, and the snapshot that it brings, if it does: the message itself has none of a snapshot's data.
@@ -20,11 +21,18 @@ pub struct SentMessage<P> {
     pub snapshot: Option<P>,
 }
 
+/// A message without the snapshot that it brings, and the bytes of a chunk of that one's.
+#[derive(Drop)]
+pub struct SentPart {
+    pub message: Message,
+    pub chunk: Items<u8>,
+}
+
 /// What a packet carries.
 #[derive(Drop)]
 pub enum PackedContent<P> {
     Message(SentMessage<P>),
-    Chunk(Chunk),
+    Part(SentPart),
 }
 
 /// What one server sends another. `P` is what a snapshot is.
@@ -101,6 +109,27 @@ impl<M: Machine> SentMessage<Packed<M>> {
     }
 }
 
+impl SentPart {
+    /// Appends it.
+    #[tactic(auto, unfolding(crate::specs::Messages::sent_part))]
+    pub fn write(&self, out: &mut Vec<u8>) -> Result<(), AllocError>
+        ensures { Writes sent_part self.now result out.old.items out.new.items }
+    {
+        self.message.write(out)?;
+        write_raw(out, self.chunk.as_slice())
+    }
+
+    /// That at the front of bytes.
+    #[tactic(auto, unfolding(crate::specs::Messages::sent_part))]
+    pub fn read(reader: &mut Reader<'_>) -> Result<Self, DecodeError>
+        ensures { Reads sent_part result reader.old reader.new }
+    {
+        let message = Message::read(reader)?;
+        let chunk = Items::from_vec(reader.bytes()?);
+        Ok(SentPart { message, chunk })
+    }
+}
+
 impl<M: Machine> PackedContent<Packed<M>> {
     /// Appends it.
     #[tactic(auto, unfolding(crate::specs::Messages::packed_content))]
@@ -112,9 +141,9 @@ impl<M: Machine> PackedContent<Packed<M>> {
                 out.push(0)?;
                 message.write(out)
             }
-            PackedContent::Chunk(chunk) => {
+            PackedContent::Part(part) => {
                 out.push(1)?;
-                chunk.write(out)
+                part.write(out)
             }
         }
     }
@@ -126,7 +155,7 @@ impl<M: Machine> PackedContent<Packed<M>> {
     {
         match reader.tag()? {
             0 => Ok(PackedContent::Message(SentMessage::read(reader)?)),
-            1 => Ok(PackedContent::Chunk(Chunk::read(reader)?)),
+            1 => Ok(PackedContent::Part(SentPart::read(reader)?)),
             _ => Err(reader.unknown_tag()),
         }
     }

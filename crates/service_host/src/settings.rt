@@ -6,7 +6,7 @@ use raft_answers::Limits;
 use raft_command::EngineConfig;
 use raft_frames::LogId;
 use raft_node::given::Given;
-use raft_service::raft_core::{Config, PeerLimits};
+use raft_service::raft_core::{Config, PART_BYTES, PeerLimits, SNAPSHOT_BYTES};
 use raft_service::{Address, Settings};
 use raft_state::{Items, Membership, SnapshotPolicy, sorted_ids};
 use std::alloc::Global;
@@ -109,6 +109,8 @@ fn read_peers(cursor: &mut Cursor<'_>) -> Result<PeerLimits, Unread> {
     let term_jump = cursor.number()?;
     Ok(PeerLimits {
         frame_bytes,
+        part_bytes: PART_BYTES,
+        snapshot_bytes: SNAPSHOT_BYTES,
         unwritten_bytes,
         term_jump,
     })

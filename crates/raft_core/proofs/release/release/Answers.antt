@@ -12,8 +12,8 @@ returns-clause-outputs g c =
     let first = c.in_ok-send_all.ensures in
     let second = c.in_ok-send_all-2.ensures in (
       first.0 ++ second.0,
-      all_sent c.args.said _ _ _ _ c.batch.view_is c.rest.view_is c.said.view_is g.M.Machine.application g.M.Machine.codec c.args.start
-          first.0 second.0 first.1 second.1,
+      all_sent c.args.said _ _ _ _ c.batch.view_is c.rest.view_is c.said.view_is g.M.Machine.application g.M.Machine.codec
+          c.args.sender.start c.args.going.now.items c.send_all.new.going.items c.send_all-2.new.going.items first.0 second.0 first.1 second.1,
       all_outputs c.args.said _ _ _ _ c.batch.view_is c.rest.view_is c.said.view_is first.0 second.0 c.args.requests.now c.execute_all.new.requests
           c.new-outputs.result.items c.send_all.new.outputs.items c.send_all-2.new.outputs.items c.install_all.new.outputs.items
           c.install_all-2.new.outputs.items c.execute_all.new.outputs.items c.execute_all-2.new.outputs.items c.in_ok-execute_all.ensures.left

@@ -5,5 +5,6 @@ use Rattle.raft_core.proofs.release.send_all.Given as goal
 
 abbrev pub invariant-loop-message : goal.invariant-loop-message
 invariant-loop-message g l =
-    (frames : List (Output g.row.M.Denot)) × Sends g.M.Machine.application g.M.Machine.codec l.start l.yielded frames
+    (frames : List (Output g.row.M.Denot))
+    × Sends g.M.Machine.application g.M.Machine.codec l.sender.start l.yielded l.initial.going.items frames l.going.items
     × (l.outputs.items ≡ l.initial.outputs.items ++ frames)

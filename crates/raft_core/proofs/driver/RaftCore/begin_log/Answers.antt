@@ -16,6 +16,8 @@ returns g c =
       requests = i.clients.requests;
       executed = i.executed;
       reads = i.clients.reads;
+      outgoing = i.outgoing.items;
+      incoming = i.incoming.assembly;
     } in
     let begun = c.in-Ok.begun in
     subst (λ (v : CoreView g.row.M.Denot). MayBeginLog codec c.args.log.now v begun c.note_begun-2.new.self) c.self.view_is

@@ -18,6 +18,8 @@ returns g c =
       requests = i.clients.requests;
       executed = i.executed;
       reads = i.clients.reads;
+      outgoing = i.outgoing.items;
+      incoming = i.incoming.assembly;
     } in
     let view : CoreView g.row.M.Denot = record {
       id = j.id;
@@ -27,14 +29,21 @@ returns g c =
       requests = j.clients.requests;
       executed = j.executed;
       reads = j.clients.reads;
+      outgoing = j.outgoing.items;
+      incoming = j.incoming.assembly;
     } in
     let out = c.in_ok-leave.field-0.items in
     subst (λ (v : CoreView g.row.M.Denot). Releases app codec c.args.position v out
-    (record view { requests = c.leave.new.requests; executed = c.leave.new.executed; reads = c.leave.new.reads }))
+    (record view {
+      requests = c.leave.new.requests;
+      executed = c.leave.new.executed;
+      reads = c.leave.new.reads;
+      outgoing = c.leave.new.going.items;
+    }))
     c.self.view_is
     (releases app codec c.args.position old view out c.flushed.new.self c.in_ok-said.said c.in_ok-leave.ensures.outputs.0
-    c.leave.new.requests c.leave.new.executed c.leave.new.reads
+    c.leave.new.requests c.leave.new.executed c.leave.new.reads c.keep_of.new.outgoing.items c.leave.new.going.items
     (c.self-2.view_is ∙ c.note_flushed.ensures) c.in_ok-said.ensures.flushes
     (λ none. untrue (c.in_ok-said.ensures.stopped.1 none)) c.in_ok-said.ensures.released c.in_ok-said.ensures.given
-    c.in_ok-leave.ensures.outputs.1
+    c.keep_of.ensures c.in_ok-leave.ensures.outputs.1
     c.in_ok-leave.ensures.requests c.in_ok-leave.ensures.executed c.in_ok-leave.ensures.reads c.in_ok-leave.ensures.outputs.2)

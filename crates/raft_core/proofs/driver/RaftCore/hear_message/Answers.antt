@@ -3,8 +3,8 @@ use Rattle.raft_core.specs.Reads.{with_heard}
 use Rattle.raft_core.specs.Views.{CoreView}
 use Rattle.raft_core.proofs.driver.RaftCore.hear_message.Goals as goal
 
-pub returns-clause-heard : goal.returns-clause-heard
-returns-clause-heard g c =
+pub returns : goal.returns
+returns g c =
     let i = c.self.inside in
     let view : CoreView g.row.M.Denot = record {
       id = i.id;
@@ -14,6 +14,8 @@ returns-clause-heard g c =
       requests = i.clients.requests;
       executed = i.executed;
       reads = i.clients.reads;
+      outgoing = i.outgoing.items;
+      incoming = i.incoming.assembly;
     } in
     (λ k. record view { reads = c.in_ok-hear-2.ensures k })
     ∙ ap (λ (v : CoreView g.row.M.Denot). record v { reads = with_heard c.args.message.now v.reads }) (c.self.view_is ∙ c.hear.ensures)

@@ -18,6 +18,8 @@ returns g c =
       requests = i.clients.requests;
       executed = i.executed;
       reads = i.clients.reads;
+      outgoing = i.outgoing.items;
+      incoming = i.incoming.assembly;
     } in
     subst (λ (v : CoreView g.row.M.Denot). Moves app (Initialize ∷ []) v new) c.self.view_is
     (record {

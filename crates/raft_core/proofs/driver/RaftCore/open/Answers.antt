@@ -22,4 +22,6 @@ returns g c =
       requests = c.new-2.ensures;
       executed = refl;
       reads = c.new-3.ensures;
+      outgoing = c.new-5.ensures.items;
+      incoming = c.new-6.ensures;
     }

@@ -20,6 +20,8 @@ returns-clause-ticks g c =
       requests = left.requests;
       executed = i.executed;
       reads = left.reads;
+      outgoing = i.outgoing.items;
+      incoming = i.incoming.assembly;
     } in
     subst (λ (v : CoreView g.row.M.Denot). Ticks g.M.Machine.application v out new) c.self.view_is
     (record {

@@ -19,6 +19,8 @@ returns g c =
       requests = i.clients.requests;
       executed = i.executed;
       reads = i.clients.reads;
+      outgoing = i.outgoing.items;
+      incoming = i.incoming.assembly;
     } in
     let mid : CoreView g.row.M.Denot =
     record old { server = c.propose.new.server; requests = c.propose.new.requests; reads = c.ask_reads.new.reads } in
@@ -30,6 +32,8 @@ returns g c =
       requests = j.clients.requests;
       executed = j.executed;
       reads = j.clients.reads;
+      outgoing = j.outgoing.items;
+      incoming = j.incoming.assembly;
     } in
     let out = c.in_ok-outputs_of.field-0.items in
     let replies = c.propose.new.replies.items in

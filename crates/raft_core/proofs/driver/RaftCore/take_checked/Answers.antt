@@ -8,10 +8,10 @@ use Rattle.raft_core.specs.Steps.{TakesStep, step_taking}
 use Rattle.raft_core.specs.Views.{CoreView}
 use Rattle.raft_core.proofs.Assembled.{takes_message}
 use Rattle.raft_core.proofs.Stepped.{one_step}
-use Rattle.raft_core.proofs.driver.RaftCore.take_message.Goals as goal
+use Rattle.raft_core.proofs.driver.RaftCore.take_checked.Goals as goal
 
-pub returns-clause-ok : goal.returns-clause-ok
-returns-clause-ok g c =
+pub returns : goal.returns
+returns g c =
     let app = g.M.Machine.application in
     let i = c.self.inside in
     let old : CoreView g.row.M.Denot = c.args.self.now in
@@ -23,11 +23,13 @@ returns-clause-ok g c =
       requests = i.clients.requests;
       executed = i.executed;
       reads = i.clients.reads;
+      outgoing = i.outgoing.items;
+      incoming = i.incoming.assembly;
     } in
     let brings : c.message.inside.message ≡ c.args.message.message =
     ap (λ (m : PackedMessage g.row.M.Denot). m.message) c.message.view_is in
     let heard : view ≡ record old { reads = with_heard c.args.message.message old.reads } =
-    c.self.view_is ∙ (c.in_ok-hear_message.ensures.heard ∙ ap (λ (m : Message). record old { reads = with_heard m old.reads }) brings) in
+    c.self.view_is ∙ (c.in_ok-hear_message.ensures ∙ ap (λ (m : Message). record old { reads = with_heard m old.reads }) brings) in
     let step : step_of app c.take.result i.clock.moment ≡ step_taking i.clock.moment c.args.message =
     (λ k. record { act = c.take.ensures.act k; brought = c.take.ensures.brought k; at = i.clock.moment }) in
     let taken =
@@ -35,7 +37,7 @@ returns-clause-ok g c =
     c.in_ok-take_with.ensures in
     takes_message app c.args.message old view c.in_ok-answer_after.field-0.items c.take_with.new.server c.answer_after.new.clients.requests
     c.answer_after.new.clients.reads
-    (sym (ap (λ (m : Message). m.to) brings) ∙ c.in_ok-hear_message.ensures.to)
+    c.requires
     heard
     (one_step app (step_taking i.clock.moment c.args.message) i.server c.take_with.new.server c.in_ok-take_with.field-0 taken)
     c.in_ok-answer_after.ensures
