@@ -978,7 +978,8 @@ impl<M: Machine> RaftCore<M> {
     {
         self.check_to(reply.to)?;
         self.hear(reply.from)?;
-        self.policy.hear_part(reply.from, &self.clock);
+        let is_there = reply.cursor.is_at_end();
+        self.policy.hear_part(reply.from, is_there, &self.clock);
         let mut outputs = Vec::new(self.alloc);
         go_on(
             self.alloc,

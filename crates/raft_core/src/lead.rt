@@ -18,12 +18,14 @@ struct Heard {
     at: u64,
 }
 
-/// A request that is in flight to a target, and since when, in milliseconds.
+/// A request that is in flight to a target, and since when, in milliseconds: of a snapshot in parts, since one was answered.
 #[derive(Clone, Copy)]
 struct Flight {
     target: u64,
     request: u64,
     since: u64,
+    /// Whether the target has all parts of the snapshot.
+    is_there: bool,
 }
 
 /// A leader's timers.
@@ -42,16 +44,11 @@ pub struct Lead {
     target: Option<Target>,
 }
 
-/// How often the patience is waited for the answer to a snapshot, which may have many bytes.
+/// How often the patience is waited for the answer to a snapshot, or until one that is there is installed: it may have many bytes.
 const SNAPSHOT_PATIENCE: u64 = 20;
 
-/// How long the answer to such a request is waited for, in milliseconds.
-fn patience_for(inflight: &Inflight<u64>, patience: u64) -> u64 {
-    match inflight {
-        Inflight::Snapshot { .. } => patience.saturating_mul(SNAPSHOT_PATIENCE),
-        _ => patience,
-    }
-}
+/// How often it is waited for the answer to a part of one by a server that says other things meanwhile.
+const PART_PATIENCE: u64 = 5;
 
 /// The number of the request that is in flight, if one is.
 fn request_of(inflight: &Inflight<u64>) -> Option<u64> {
@@ -119,11 +116,12 @@ impl Lead {
         Ok(())
     }
 
-    /// A target has answered a part of the snapshot that is in flight to it: that goes on.
-    pub fn hear_part(&mut self, from: u64, clock: &Clock) {
+    /// A target has answered a part of the snapshot that is in flight to it, which goes on, or is there.
+    pub fn hear_part(&mut self, from: u64, is_there: bool, clock: &Clock) {
         for flight in &mut self.flights {
             if flight.target == from {
                 flight.since = clock.moment;
+                flight.is_there = is_there;
             }
         }
     }
@@ -155,14 +153,44 @@ impl Lead {
         self.target = None;
     }
 
-    /// Since when this request is in flight to a target: now, unless it was seen before.
-    fn flown_since(&self, target: u64, request: u64, clock: &Clock) -> u64 {
+    /// This request to a target: it is in flight since now, unless it was seen before.
+    fn flight_of(&self, target: u64, request: u64, clock: &Clock) -> Flight {
         for flight in &self.flights {
             if flight.target == target && flight.request == request {
-                return flight.since;
+                return *flight;
             }
         }
-        clock.moment
+        Flight {
+            target,
+            request,
+            since: clock.moment,
+            is_there: false,
+        }
+    }
+
+    /// Whether a member was heard after a moment, in milliseconds.
+    fn was_heard(&self, id: u64, moment: u64) -> bool {
+        for heard in &self.heard {
+            if heard.id == id {
+                return heard.at > moment;
+            }
+        }
+        false
+    }
+
+    /// How long the answer to such a request is waited for, in milliseconds.
+    fn patience_for(&self, inflight: &Inflight<u64>, flight: &Flight, patience: u64) -> u64 {
+        match inflight {
+            Inflight::Snapshot { .. } => {
+                let times = if !flight.is_there && self.was_heard(flight.target, flight.since) {
+                    PART_PATIENCE
+                } else {
+                    SNAPSHOT_PATIENCE
+                };
+                patience.saturating_mul(times)
+            }
+            _ => patience,
+        }
     }
 
     /// Requests that are in flight for longer than the patience fail.
@@ -181,16 +209,12 @@ impl Lead {
         for row in leader.progress.iter() {
             let target = row.0;
             if let Some(request) = request_of(&row.1.inflight) {
-                let since = self.flown_since(target, request, clock);
-                let patience = patience_for(&row.1.inflight, patience);
-                if clock.since(since) >= patience && target != engine.config.id {
+                let flight = self.flight_of(target, request, clock);
+                let patience = self.patience_for(&row.1.inflight, &flight, patience);
+                if clock.since(flight.since) >= patience && target != engine.config.id {
                     push_move(Move::Fail(target), moves)?;
                 } else {
-                    flights.push(Flight {
-                        target,
-                        request,
-                        since,
-                    })?;
+                    flights.push(flight)?;
                 }
             }
         }

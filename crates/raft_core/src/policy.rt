@@ -96,8 +96,8 @@ impl Policy {
     }
 
     /// A server has answered a part of the snapshot that is sent to it.
-    pub fn hear_part(&mut self, from: u64, clock: &Clock) {
-        self.lead.hear_part(from, clock);
+    pub fn hear_part(&mut self, from: u64, is_there: bool, clock: &Clock) {
+        self.lead.hear_part(from, is_there, clock);
     }
 
     /// Another server has answered whether it would elect this one: it stands once a quorum would.
