@@ -170,7 +170,8 @@ pub record Hears {S : Type 0} (app : Application S) (reply : PreVoteReply) (old 
 abbrev pub reply_to : {S : Type 0} → (x : SentPart) (old : CoreView S) → Comes x old.incoming → PartReply
 reply_to x old k = record { from = old.id; to = x.message.from; cursor = cursor_of (assembled k) k.piece.at.title }
 
--- A part is kept: the snapshot isn't whole yet, or the part doesn't fit, or no snapshot has these bytes. No step is taken.
+-- A part is kept, and no step is taken: the snapshot isn't whole yet, or the part doesn't fit, or no snapshot has these bytes. That it is so only
+-- then is not said.
 pub record KeepsPart {S : Type 0} (x : SentPart) (old : CoreView S) (out : List (Output S)) (new : CoreView S) : Type 0 where
   pub to : x.message.to ≡ old.id
   pub comes : Comes x old.incoming

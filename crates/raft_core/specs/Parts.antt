@@ -24,12 +24,16 @@ pub record Outgoing : Type 0 where
   pub number : ℕ
   pub bytes : List ℕ
 
--- what a packet has of it: the message, and a chunk, which is read as that at an offset, of at most so many bytes
+-- its chunk at an offset, of at most so many bytes
+abbrev pub chunk_of : Outgoing → ℕ → ℕ → Piece
+chunk_of o offset most = chunk_at (record { title = title_of o.number o.bytes; offset = offset }) o.bytes most
+
+-- what a packet has of it: the message, and a chunk
 pub record IsPartOf (o : Outgoing) (x : SentPart) : Type 0 where
   pub message : x.message ≡ o.message
   pub offset : ℕ
   pub most : ℕ
-  pub reads : opened chunk x.chunk ≡ Ok (chunk_at (record { title = title_of o.number o.bytes; offset = offset }) o.bytes most)
+  pub reads : opened chunk x.chunk ≡ Ok (chunk_of o offset most)
 
 module _ {S : Type 0} (c : Codec S) where
   abbrev pub outgoing_of : PackedMessage S → Outgoing

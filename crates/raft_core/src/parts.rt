@@ -4,10 +4,10 @@ ghost use Rattle.std.specs.Prelude.{ℕ, ◌≡◌, ◌⊎◌, ◌∷◌, ◌++�
 ghost use Rattle.std.specs.List.{AllByRecursion};
 ghost use Rattle.raft_frames.specs.Laws.{IsByte};
 ghost use Rattle.raft_chunks.specs.Assembly.{nothing, taken};
-ghost use Rattle.raft_chunks.specs.Chunks.{chunk_at, piece_of, title_of};
+ghost use Rattle.raft_chunks.specs.Chunks.{piece_of};
 ghost use Rattle.raft_chunks.specs.Form.{opened, piece, sealed};
 ghost use Rattle.raft_packed_server.specs.raft_packed_wire.Values.{kept};
-ghost use Rattle.raft_core.specs.Parts.{AreParts, IsPartOf, LeavesAsPart, Outgoing as Going};
+ghost use Rattle.raft_core.specs.Parts.{AreParts, IsPartOf, LeavesAsPart, Outgoing as Going, chunk_of};
 ghost use Rattle.raft_core.specs.declared.output.Output.{Output as Out};
 
 use crate::error::CoreError;
@@ -140,8 +140,7 @@ impl Outgoing {
 
     /// The bytes of the next chunk, with their sum.
     fn chunk(&self, alloc: Global, most: usize) -> Result<Items<u8>, AllocError>
-        ensures { IfOk result (λ bytes. (offset : ℕ)
-            × (opened piece bytes ≡ Ok (chunk_at (record { title = title_of self.now.number self.now.bytes; offset = offset }) self.now.bytes most))) }
+        ensures { IfOk result (λ bytes. (offset : ℕ) × (opened piece bytes ≡ Ok (chunk_of self.now offset most))) }
     {
         let bytes = seal(alloc, &self.at.chunk(&self.bytes, most))?;
         Ok(Items::from_vec(bytes))
