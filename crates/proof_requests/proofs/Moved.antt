@@ -84,7 +84,7 @@ module _ {S : Type 0} (app : Application S) (c : Codec S) where
           → IsPartOf o x → IsComing app c bag (assembled k) × ((all : List ℕ) → AreWhole k all → all ≡ o.bytes)
       part_comes x old k h o g q =
           let before : IsComing app c bag k.before =
-          ⊎_elim (λ e. subst (IsComing app c bag) (sym e) h) (λ e. subst (IsComing app c bag) (sym e) (inl refl)) k.begun in
+          ⊎_elim (λ e. subst (IsComing app c bag) (sym e) h) (λ e. subst (IsComing app c bag) (sym e.0) (inl refl)) k.begun in
           let piece : Piece = chunk_at (record { title = title_of o.number o.bytes; offset = q.offset }) o.bytes q.most in
           let same : k.piece ≡ piece = ok_same k.piece piece (sym k.reads ∙ q.reads) in
           let t : TookPart (title_of o.number o.bytes) o.bytes k.before (taken k.before k.piece) =
@@ -97,11 +97,11 @@ module _ {S : Type 0} (app : Application S) (c : Codec S) where
 
       -- then it is the snapshot that the part's message brings
       pub part_completes : IsCodec c → (x : SentPart) (old : Assembled) (k : Comes x old) → IsComing app c bag old → (o : Outgoing)
-          → (g : IsGoing app c bag o) → IsPartOf o x → (all : List ℕ) → AreWhole k all → (snapshot : Packed S) → (kept c).fits snapshot
-          → all ≡ (kept c).bytes snapshot → packed_message app g.message ≡ record { message = x.message; brought = snapshot }
-      part_completes inverse x old k h o g q all whole snapshot fits is =
+          → (g : IsGoing app c bag o) → IsPartOf o x → (snapshot : Packed S) → (kept c).fits snapshot → AreWhole k ((kept c).bytes snapshot)
+          → packed_message app g.message ≡ record { message = x.message; brought = snapshot }
+      part_completes inverse x old k h o g q snapshot fits whole =
           let bytes : (kept c).bytes snapshot ≡ (kept c).bytes (brought_by_body app g.message.body) =
-          sym is ∙ ((part_comes x old k h o g q).1 all whole ∙ ap (λ (y : Outgoing). y.bytes) g.is) in
+          (part_comes x old k h o g q).1 ((kept c).bytes snapshot) whole ∙ ap (λ (y : Outgoing). y.bytes) g.is in
           let back : IsCodec (kept c) = kept_is c inverse in
           let brought : snapshot ≡ brought_by_body app g.message.body =
           first_same snapshot (brought_by_body app g.message.body)

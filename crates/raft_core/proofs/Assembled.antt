@@ -9,7 +9,7 @@ use Rattle.raft_answers.specs.Requests.{Open}
 use Rattle.raft_calls.specs.declared.message.Message.{Message}
 use Rattle.raft_codec.specs.Codec.{Codec}
 use Rattle.raft_chunks.specs.Assembled.{Assembled}
-use Rattle.raft_chunks.specs.Assembly.{cursor_of, nothing, taken}
+use Rattle.raft_chunks.specs.Assembly.{cursor_of, taken}
 use Rattle.raft_chunks.specs.Chunks.{Piece}
 use Rattle.raft_chunks.specs.declared.cursor.Cursor.{Cursor}
 use Rattle.raft_chunks.specs.Form.{opened, piece as chunk}
@@ -17,7 +17,6 @@ use Rattle.raft_packed_server.specs.proof_packed.Nodes.{PackedMessage, PackedRec
 use Rattle.raft_packed_server.specs.proof_packed.Stores.{Application, Packed}
 use Rattle.raft_packed_server.specs.proof_packed_servers.Servers.{PackedServer}
 use Rattle.raft_packed_server.specs.raft_packed_wire.declared.packet.SentPart.{SentPart}
-use Rattle.raft_packed_server.specs.raft_packed_wire.Values.{kept as stored}
 use Rattle.raft_packed_server.specs.declared.batch.Written.{Written}
 use Rattle.raft_packed_server.specs.declared.error.ServerError.{ServerError}
 use Rattle.raft_packed_server.specs.Represents.{Flushes, HandsOut, Represents}
@@ -28,7 +27,7 @@ use Rattle.raft_core.specs.Calls.{AnswersAfter, AnswersOverdue, Asks, CompletesS
 use Rattle.raft_core.specs.Calls.{TakesMessage, WritesNow, appended}
 use Rattle.raft_core.specs.Frames.{answered}
 use Rattle.raft_core.specs.Outputs.{Sends, reads_out, replies_out, said_outputs, settled_all}
-use Rattle.raft_core.specs.Parts.{AreParts, Outgoing}
+use Rattle.raft_core.specs.Parts.{AreParts, IsBefore, IsWhole, Outgoing}
 use Rattle.raft_core.specs.Reads.{ReadsView, failed_left, failed_replies, handed_after, read_left, read_replies, with_heard, with_left}
 use Rattle.raft_core.specs.Steps.{TakesSteps, step_taking}
 use Rattle.raft_core.specs.Views.{CoreView}
@@ -175,30 +174,29 @@ module _ {S : Type 0} (app : Application S) (c : Codec S) where
       })
       kept leaves
 
-  module _ (x : SentPart) (old j : CoreView S) (before : Assembled) (p : Piece) (reply : PartReply) (begun : (before ≡ old.incoming) ⊎ (before ≡ nothing 0))
+  module _ (x : SentPart) (old j : CoreView S) (before : Assembled) (p : Piece) (reply : PartReply) (begun : IsBefore p.at.title old.incoming before)
       (reads : opened chunk x.chunk ≡ Ok p) (becomes : j ≡ record old { incoming = (taken before p).1 })
       (tells : reply ≡ record { from = old.id; to = x.message.from; cursor = cursor_of (taken before p).1 p.at.title }) where
     -- a part has come
-    pub keeps_part : (out : List (Output S)) → x.message.to ≡ old.id → out ≡ answered reply ∷ [] → KeepsPart x old out j
-    keeps_part out to leaves = record {
+    pub keeps_part : (out : List (Output S)) → x.message.to ≡ old.id → IsWhole c (taken before p).0 None → out ≡ answered reply ∷ []
+        → KeepsPart c x old out j
+    keeps_part out to waits leaves = record {
       to = to;
       comes = record { before = before; begun = begun; piece = p; reads = reads };
+      waits = waits;
       rest = becomes;
       leaves = leaves ∙ ap (λ (r : PartReply). answered r ∷ []) tells;
     }
 
     -- and the snapshot is whole with it
-    pub completes : (out others : List (Output S)) (new : CoreView S) (snapshot : Packed S) → (stored c).fits snapshot
-        → (taken before p).0 ≡ Ok (Some ((stored c).bytes snapshot))
+    pub completes : (out others : List (Output S)) (new : CoreView S) (snapshot : Packed S) → IsWhole c (taken before p).0 (Some snapshot)
         → TakesMessage app (record { message = x.message; brought = snapshot }) j others new → out ≡ answered reply ∷ others
         → CompletesSnapshot app c x old out new
-    completes out others new snapshot fits whole takes leaves = record {
+    completes out others new snapshot is_whole takes leaves = record {
       comes = record { before = before; begun = begun; piece = p; reads = reads };
-      bytes = (stored c).bytes snapshot;
-      whole = whole;
       snapshot = snapshot;
-      fits = fits;
-      is = refl;
+      fits = is_whole.0;
+      whole = is_whole.1;
       others = others;
       takes = subst (λ (v : CoreView S). TakesMessage app (record { message = x.message; brought = snapshot }) v others new) becomes takes;
       leaves = leaves ∙ ap (λ (r : PartReply). answered r ∷ others) tells;
@@ -206,10 +204,10 @@ module _ {S : Type 0} (app : Application S) (c : Codec S) where
 
   -- a chunk was put behind what had come
   module _ (x : SentPart) (m : Message) (old v : CoreView S) (before after : Assembled) (p : Piece) (cur : Cursor) (is : x.message ≡ m)
-      (reads : opened chunk x.chunk ≡ Ok p) (same : v ≡ old) (begun : (before ≡ v.incoming) ⊎ (before ≡ nothing 0))
+      (reads : opened chunk x.chunk ≡ Ok p) (same : v ≡ old) (begun : IsBefore p.at.title v.incoming before)
       (puts : after ≡ (taken before p).1) (points : cur ≡ cursor_of after p.at.title) where
-    begun_before : (before ≡ old.incoming) ⊎ (before ≡ nothing 0)
-    begun_before = ⊎_elim (λ e. inl (e ∙ ap (λ (u : CoreView S). u.incoming) same)) (λ e. inr e) begun
+    begun_before : IsBefore p.at.title old.incoming before
+    begun_before = subst (λ (u : CoreView S). IsBefore p.at.title u.incoming before) same begun
 
     becomes : record v { incoming = after } ≡ record old { incoming = (taken before p).1 }
     becomes = ap (λ (u : CoreView S). record u { incoming = after }) same ∙ ap (λ (a : Assembled). record old { incoming = a }) puts
@@ -227,16 +225,19 @@ module _ {S : Type 0} (app : Application S) (c : Codec S) where
         ∙ ap (λ (a : Cursor). record { from = old.id; to = x.message.from; cursor = a })
         (points ∙ ap (λ (a : Assembled). cursor_of a p.at.title) puts))
 
-    pub keeps_chunk : (out : List (Output S)) → m.to ≡ old.id → out ≡ answered reply ∷ [] → KeepsPart x old out (record v { incoming = after })
-    keeps_chunk out to leaves =
-        keeps_part x old (record v { incoming = after }) before p reply begun_before reads becomes tells out (ap (λ (y : Message). y.to) is ∙ to) leaves
+    pub keeps_chunk : (out : List (Output S)) → m.to ≡ old.id → IsWhole c (taken before p).0 None → out ≡ answered reply ∷ []
+        → KeepsPart c x old out (record v { incoming = after })
+    keeps_chunk out to waits leaves =
+        keeps_part x old (record v { incoming = after }) before p reply begun_before reads becomes tells out
+        (ap (λ (y : Message). y.to) is ∙ to) waits
+        leaves
 
-    pub completes_chunk : (out others : List (Output S)) (new : CoreView S) (there : Assembled) (snapshot : Packed S) → (stored c).fits snapshot
-        → (taken before p).0 ≡ Ok (Some ((stored c).bytes snapshot)) → there ≡ after
+    pub completes_chunk : (out others : List (Output S)) (new : CoreView S) (there : Assembled) (snapshot : Packed S)
+        → IsWhole c (taken before p).0 (Some snapshot) → there ≡ after
         → TakesMessage app (record { message = m; brought = snapshot }) (record v { incoming = there }) others new
         → out ≡ answered reply ∷ others → CompletesSnapshot app c x old out new
-    completes_chunk out others new there snapshot fits whole stays takes leaves =
-        completes x old (record v { incoming = after }) before p reply begun_before reads becomes tells out others new snapshot fits whole
+    completes_chunk out others new there snapshot is_whole stays takes leaves =
+        completes x old (record v { incoming = after }) before p reply begun_before reads becomes tells out others new snapshot is_whole
         (subst (λ (y : Message). TakesMessage app (record { message = y; brought = snapshot }) (record v { incoming = after }) others new) (sym is)
         (subst (λ (a : Assembled). TakesMessage app (record { message = m; brought = snapshot }) (record v { incoming = a }) others new) stays takes))
         leaves

@@ -1,6 +1,6 @@
 -- Parts of snapshots, as they leave.
 use Rattle.std.proofs.Common.{ℕ, ◌≡◌, ◌<◌, Bool, true, false, if◌then◌else◌, List, [], ◌∷◌, ◌++◌, Ok, Err, refl, sym, subst, ap, ◌∙◌, get_or}
-use Rattle.std.specs.Prelude.{◌≢◌, IfOk, IfSome, None, OnOk, Option, Result, Some}
+use Rattle.std.specs.Prelude.{◌≢◌, IfOk, None, OnOk, Option, Result, Some}
 use Rattle.std.specs.Global.{Vec}
 use Rattle.std.specs.List.{AllByRecursion}
 use Rattle.std.proofs.lemmas.List.Elements.{All-from_get_or, recursion_from_All}
@@ -8,7 +8,9 @@ use Rattle.raft_frames.specs.Crc.{crc32c}
 use Rattle.raft_frames.specs.Format.{word}
 use Rattle.raft_frames.specs.Laws.{IsByte}
 use Rattle.raft_codec.specs.declared.error.DecodeError.{DecodeError}
-use Rattle.raft_codec.specs.Codec.{Codec}
+use Rattle.raft_codec.specs.declared.error.DecodeError.TheVariants.{Malformed}
+use Rattle.raft_codec.specs.declared.error.Fault.{Fault}
+use Rattle.raft_codec.specs.Codec.{Codec, IsFound}
 use Rattle.raft_chunks.specs.declared.cursor.Chunk.{Chunk}
 use Rattle.raft_chunks.specs.declared.cursor.Cursor.{Cursor}
 use Rattle.raft_chunks.specs.declared.cursor.Title.{Title}
@@ -20,6 +22,9 @@ use Rattle.raft_chunks.specs.Assembly.{Takes}
 use Rattle.raft_chunks.specs.Chunks.{Piece, chunk_at, followed, piece_of, same_title, start_of, title_of}
 use Rattle.raft_chunks.specs.Form.{Opens, opened, piece, sealed}
 use Rattle.raft_chunks.proofs.Forms.{reads_back}
+use Rattle.raft_packed_server.specs.proof_packed.Stores.{Packed}
+use Rattle.raft_packed_server.specs.raft_packed_wire.Values.{kept}
+use Rattle.raft_core.specs.Parts.{IsWhole}
 
 front : (xs ys : List ℕ) → AllByRecursion IsByte (xs ++ ys) → AllByRecursion IsByte xs
 front [] ys h = tt
@@ -83,13 +88,26 @@ pub handed_out : (bytes : Vec ℕ) (given : Result (Option (List ℕ)) Refusal �
     → given.0 ≡ Ok (Some bytes.items)
 handed_out bytes given old new h = ap (λ (q : Result (Option (List ℕ)) Refusal × Assembled). q.0) h
 
--- the snapshot whose bytes they are
-pub found_whole : {S E : Type 0} (c : Codec S) (r : Result (Option S) E) (bytes : List ℕ) (answer : Result (Option (List ℕ)) Refusal)
-    → answer ≡ Ok (Some bytes) → IfOk r (λ found. IfSome found (λ p. c.fits p × (bytes ≡ c.bytes p)))
-    → IfOk r (λ found. IfSome found (λ p. c.fits p × (answer ≡ Ok (Some (c.bytes p)))))
-found_whole c (Ok (Some p)) bytes answer is h = (h.0, is ∙ ap (λ (bs : List ℕ). let w : Result (Option (List ℕ)) Refusal = Ok (Some bs) in w) h.1)
-found_whole c (Ok None) bytes answer is h = tt
-found_whole c (Err e) bytes answer is h = tt
+-- or that it hands nothing out
+pub nothing_out : (given : Result (Option (List ℕ)) Refusal × Assembled) (old new : Assembled) → Takes (Ok None) given old new → given.0 ≡ Ok None
+nothing_out given old new h = ap (λ (q : Result (Option (List ℕ)) Refusal × Assembled). q.0) h
+
+-- or refuses the chunk
+pub refused : (refusal : Refusal) (given : Result (Option (List ℕ)) Refusal × Assembled) (old new : Assembled)
+    → Takes (Err (Refused refusal)) given old new
+    → given.0 ≡ Err refusal
+refused refusal given old new h = ap (λ (q : Result (Option (List ℕ)) Refusal × Assembled). q.0) h
+
+same_out : (one other : List ℕ) → ◌≡◌ {A = Result (Option (List ℕ)) Refusal} (Ok (Some one)) (Ok (Some other)) → one ≡ other
+same_out one other e = cc
+
+-- no snapshot has bytes from which none is read
+pub none_has : {S : Type 0} (c : Codec S) (r : Result (Packed S) DecodeError) (e : DecodeError) (fault : Fault) (left : ℕ) (bytes : List ℕ)
+    → r ≡ Err e
+    → e ≡ Malformed fault left → ((p : Packed S) → (kept c).fits p → bytes ≡ (kept c).bytes p → IsFound r p) → IsWhole c (Ok (Some bytes)) None
+none_has c r e fault left bytes is malformed read_back = λ p fits whole.
+    subst (λ (d : DecodeError). IsFound {X = Packed _} (Err d) p) malformed
+    (subst (λ (q : Result (Packed _) DecodeError). IsFound q p) is (read_back p fits (same_out bytes ((kept c).bytes p) whole)))
 
 -- what holds whatever a call gives
 pub on_any : {T E P : Type 0} (r : Result T E) → P → OnOk r P

@@ -170,11 +170,12 @@ pub record Hears {S : Type 0} (app : Application S) (reply : PreVoteReply) (old 
 abbrev pub reply_to : {S : Type 0} → (x : SentPart) (old : CoreView S) → Comes x old.incoming → PartReply
 reply_to x old k = record { from = old.id; to = x.message.from; cursor = cursor_of (assembled k) k.piece.at.title }
 
--- A part is kept, and no step is taken: the snapshot isn't whole yet, or the part doesn't fit, or no snapshot has these bytes. That it is so only
--- then is not said.
-pub record KeepsPart {S : Type 0} (x : SentPart) (old : CoreView S) (out : List (Output S)) (new : CoreView S) : Type 0 where
+-- A part is kept, and no step is taken.
+pub record KeepsPart {S : Type 0} (c : Codec S) (x : SentPart) (old : CoreView S) (out : List (Output S)) (new : CoreView S) : Type 0 where
   pub to : x.message.to ≡ old.id
   pub comes : Comes x old.incoming
+  -- the snapshot isn't whole yet, or the part doesn't fit, or no snapshot has these bytes
+  pub waits : (p : Packed S) → (kept c).fits p → AreWhole comes ((kept c).bytes p) → ⊥
   pub rest : new ≡ record old { incoming = assembled comes }
   pub leaves : out ≡ answered (reply_to x old comes) ∷ []
 
@@ -182,11 +183,9 @@ pub record KeepsPart {S : Type 0} (x : SentPart) (old : CoreView S) (out : List 
 pub record CompletesSnapshot {S : Type 0} (app : Application S) (c : Codec S) (x : SentPart) (old : CoreView S) (out : List (Output S))
     (new : CoreView S) : Type 0 where
   pub comes : Comes x old.incoming
-  pub bytes : List ℕ
-  pub whole : AreWhole comes bytes
   pub snapshot : Packed S
   pub fits : (kept c).fits snapshot
-  pub is : bytes ≡ (kept c).bytes snapshot
+  pub whole : AreWhole comes ((kept c).bytes snapshot)
   pub others : List (Output S)
   pub takes : TakesMessage app (record { message = x.message; brought = snapshot }) (record old { incoming = assembled comes }) others new
   pub leaves : out ≡ answered (reply_to x old comes) ∷ others
@@ -201,7 +200,7 @@ pub record GoesOn {S : Type 0} (c : Codec S) (reply : PartReply) (old : CoreView
 module _ {S : Type 0} (app : Application S) (c : Codec S) where
   abbrev pub TakesContent : PackedContent (Packed S) → CoreView S → List (Output S) → CoreView S → Type 0
   TakesContent (content.Message m) old out new = TakesMessage app (received app m) old out new
-  TakesContent (content.Part x) old out new = KeepsPart x old out new ⊎ CompletesSnapshot app c x old out new
+  TakesContent (content.Part x) old out new = KeepsPart c x old out new ⊎ CompletesSnapshot app c x old out new
 
   abbrev pub TakesFrame : Frame S → CoreView S → List (Output S) → CoreView S → Type 0
   TakesFrame (frames.Packet p) old out new = TakesContent p.content old out new

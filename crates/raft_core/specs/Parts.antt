@@ -1,12 +1,14 @@
 -- Snapshots that leave and come in parts (Raft paper, section 7, figure 13): `raft_chunks` has their bytes in chunks, and puts them together.
 -- A snapshot's number is how many entries it stands for. Servers agree on those, so whoever sends parts of it, they are parts of the same.
-use Rattle.std.specs.Prelude.{ℕ, ◌≡◌, ◌⊎◌, List, ◌∷◌, Some, Ok}
+use Rattle.std.specs.Prelude.{ℕ, ◌≡◌, ◌⊎◌, true, List, ◌∷◌, Option, None, Some, Result, Ok}
 use Rattle.std.specs.List.{AllByRecursion}
 use Rattle.raft_calls.specs.declared.message.Message.{Message}
 use Rattle.raft_codec.specs.Codec.{Codec}
+use Rattle.raft_chunks.specs.declared.cursor.Title.{Title}
+use Rattle.raft_chunks.specs.declared.error.Refusal.{Refusal}
 use Rattle.raft_chunks.specs.Assembled.{Assembled}
-use Rattle.raft_chunks.specs.Assembly.{nothing, taken}
-use Rattle.raft_chunks.specs.Chunks.{Piece, chunk_at, title_of}
+use Rattle.raft_chunks.specs.Assembly.{cursor_of, nothing, taken}
+use Rattle.raft_chunks.specs.Chunks.{Piece, chunk_at, is_at_end, title_of}
 use Rattle.raft_chunks.specs.Form.{opened, piece as chunk}
 use Rattle.raft_packed_server.specs.proof_packed.Nodes.{PackedMessage}
 use Rattle.raft_packed_server.specs.proof_packed.Stores.{Packed}
@@ -56,11 +58,20 @@ module _ {S : Type 0} (c : Codec S) where
   abbrev pub AreParts : ℕ → Outgoing → List (Output S) → Type 0
   AreParts start o out = AllByRecursion (LeavesAsPart start o) out
 
--- a chunk comes, behind what had come before; or what had come is forgotten
+  -- the snapshot that is whole by the answer to a chunk; none if it isn't, or if no snapshot has these bytes
+  abbrev pub IsWhole : Result (Option (List ℕ)) Refusal → Option (Packed S) → Type 0
+  IsWhole answer (Some p) = (kept c).fits p × (answer ≡ Ok (Some ((kept c).bytes p)))
+  IsWhole answer None = (p : Packed S) → (kept c).fits p → answer ≡ Ok (Some ((kept c).bytes p)) → ⊥
+
+-- what had come before a chunk of this title; or nothing, if that snapshot was whole already
+abbrev pub IsBefore : Title → Assembled → Assembled → Type 0
+IsBefore title old before = (before ≡ old) ⊎ ((before ≡ nothing 0) × (is_at_end (cursor_of old title) ≡ true))
+
+-- a chunk comes, behind what had come before
 pub record Comes (x : SentPart) (old : Assembled) : Type 0 where
   pub before : Assembled
-  pub begun : (before ≡ old) ⊎ (before ≡ nothing 0)
   pub piece : Piece
+  pub begun : IsBefore piece.at.title old before
   pub reads : opened chunk x.chunk ≡ Ok piece
 
 -- what is there then; and the bytes of the snapshot, if all are

@@ -930,7 +930,7 @@ impl<M: Machine> RaftCore<M> {
 
     /// Takes a part of a snapshot, and with the last one its message. Its sender is told where to go on.
     fn take_part(&mut self, part: SentPart) -> Result<Vec<Output<M>>, FrameError>
-        ensures ok { IfOk result (λ outputs. KeepsPart part self.old outputs.items self.new
+        ensures ok { IfOk result (λ outputs. KeepsPart M.codec part self.old outputs.items self.new
             ⊎ CompletesSnapshot M.application M.codec part self.old outputs.items self.new) }
         ensures err { IfErr result (λ e. IsRefusal e → self.new ≡ self.old) }
     {
@@ -948,7 +948,7 @@ impl<M: Machine> RaftCore<M> {
     ) -> Result<Vec<Output<M>>, CoreError>
         requires { message.to ≡ self.old.id }
         ensures { IfOk result (λ outputs. (x : Part) → x.message ≡ message → opened piece x.chunk ≡ Ok (piece_of chunk.now)
-            → KeepsPart x self.old outputs.items self.new ⊎ CompletesSnapshot M.application M.codec x self.old outputs.items self.new) }
+            → KeepsPart M.codec x self.old outputs.items self.new ⊎ CompletesSnapshot M.application M.codec x self.old outputs.items self.new) }
     {
         self.hear(message.from)?;
         self.incoming.hear(self.alloc, &message, chunk.at.title);

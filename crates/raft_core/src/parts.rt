@@ -1,13 +1,15 @@
 //! Snapshots that leave and come in parts.
 
-ghost use Rattle.std.specs.Prelude.{ℕ, ◌≡◌, ◌⊎◌, ◌∷◌, ◌++◌, [], Contains, IfOk, IfSome, List, Ok, OnOk, Some};
+ghost use Rattle.std.specs.Prelude.{ℕ, ◌≡◌, ◌⊎◌, ◌∷◌, ◌++◌, [], Contains, IfOk, List, Ok, OnOk, Some};
 ghost use Rattle.std.specs.List.{AllByRecursion};
+ghost use Rattle.raft_codec.specs.Codec.{IsFound};
 ghost use Rattle.raft_frames.specs.Laws.{IsByte};
 ghost use Rattle.raft_chunks.specs.Assembly.{nothing, taken};
 ghost use Rattle.raft_chunks.specs.Chunks.{piece_of};
 ghost use Rattle.raft_chunks.specs.Form.{opened, piece, sealed};
+ghost use Rattle.raft_packed_server.specs.proof_packed.Stores.{Packed as Snapshot};
 ghost use Rattle.raft_packed_server.specs.raft_packed_wire.Values.{kept};
-ghost use Rattle.raft_core.specs.Parts.{AreParts, IsPartOf, LeavesAsPart, Outgoing as Going, chunk_of};
+ghost use Rattle.raft_core.specs.Parts.{AreParts, IsBefore, IsPartOf, IsWhole, LeavesAsPart, Outgoing as Going, chunk_of};
 ghost use Rattle.raft_core.specs.declared.output.Output.{Output as Out};
 
 use crate::error::CoreError;
@@ -66,8 +68,9 @@ pub fn snapshot_bytes<M: Machine>(
 }
 
 /// The snapshot whose bytes these are: all of them.
-pub fn read_snapshot<M: Machine>(alloc: Global, bytes: &[u8]) -> Result<Packed<M>, DecodeError>
-    ensures { IfOk result (λ found. (kept M.codec).fits found × (bytes.now ≡ (kept M.codec).bytes found)) }
+fn read_snapshot<M: Machine>(alloc: Global, bytes: &[u8]) -> Result<Packed<M>, DecodeError>
+    ensures written { IfOk result (λ found. (kept M.codec).fits found × (bytes.now ≡ (kept M.codec).bytes found)) }
+    ensures read_back { (p : Snapshot M) → (kept M.codec).fits p → bytes.now ≡ (kept M.codec).bytes p → IsFound result p }
 {
     let mut reader = Reader::new(alloc, bytes);
     let snapshot = read_packed::<M>(&mut reader)?;
@@ -77,7 +80,7 @@ pub fn read_snapshot<M: Machine>(alloc: Global, bytes: &[u8]) -> Result<Packed<M
 
 /// The snapshot whose bytes these are, if there is one.
 fn find_snapshot<M: Machine>(alloc: Global, bytes: &[u8]) -> Result<Option<Packed<M>>, CoreError>
-    ensures { IfOk result (λ found. IfSome found (λ p. (kept M.codec).fits p × (bytes.now ≡ (kept M.codec).bytes p))) }
+    ensures { IfOk result (IsWhole M.codec (Ok (Some bytes.now))) }
 {
     match read_snapshot(alloc, bytes) {
         Ok(snapshot) => Ok(Some(snapshot)),
@@ -260,7 +263,7 @@ impl Incoming {
 
     /// What was handed out before doesn't count for another request: that wants an answer of its own.
     pub fn hear(&mut self, alloc: Global, message: &Message, title: Title)
-        ensures { (self.new.assembly ≡ self.old.assembly) ⊎ (self.new.assembly ≡ nothing 0) }
+        ensures { IsBefore title self.old.assembly self.new.assembly }
     {
         let is_there = self.assembly.cursor(title).is_at_end();
         if is_there && self.completed != origin_of(message) {
@@ -275,8 +278,7 @@ impl Incoming {
         chunk: &Chunk<'_>,
     ) -> Result<Option<Packed<M>>, CoreError>
         ensures taken { OnOk result (self.new.assembly ≡ (taken self.old.assembly (piece_of chunk.now)).1) }
-        ensures whole { IfOk result (λ found. IfSome found (λ p. (kept M.codec).fits p
-            × ((taken self.old.assembly (piece_of chunk.now)).0 ≡ Ok (Some ((kept M.codec).bytes p))))) }
+        ensures whole { IfOk result (IsWhole M.codec (taken self.old.assembly (piece_of chunk.now)).0) }
     {
         match self.assembly.take(chunk) {
             Ok(Some(bytes)) => find_snapshot(alloc, &bytes),
