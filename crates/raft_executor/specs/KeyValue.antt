@@ -1,6 +1,8 @@
 -- The key-value service as a state machine (Raft paper, section 2).
 use Rattle.std.specs.Prelude.{ℕ, List, Option, Some, None, Result, Ok, Err, refl}
 use Rattle.std.specs.Coded.{Coded, code_by, coded×, coded_ℕ}
+use Rattle.std.specs.declared.alloc.Global.{Global}
+use Rattle.std.specs.declared.rc.Rc.{Rc}
 use Rattle.lru.specs.LruCache.{LruCache, lru_cache_code}
 use Rattle.raft_codec.specs.Codec.{whole_at}
 use Rattle.raft_codec.specs.declared.error.DecodeError.{DecodeError}
@@ -48,6 +50,6 @@ state_code =
     (λ p. record { space = p.0; sessions = p.1 }) (λ _. refl)
 
 -- no machine is made before the first request
-abbrev pub state_in : Option Machine → State
+abbrev pub state_in : Option (Rc Machine Global) → State
 state_in None = started SESSIONS
-state_in (Some machine) = state_of machine
+state_in (Some shared) = state_of shared.value

@@ -89,7 +89,7 @@ impl Executor {
         ensures { executed_of self.new ≡ installed snapshot }
     {
         let (last_id, members, state) = snapshot.into_parts();
-        self.machine = state;
+        self.machine = state.into_owned();
         self.outcome = None;
         self.applied = last_id;
         self.members = members_held(members);

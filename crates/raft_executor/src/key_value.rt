@@ -2,27 +2,29 @@
 
 ghost use Rattle.std.specs.Prelude.{◌≡◌, IfOk, OnOk};
 ghost use Rattle.raft_machine.specs.Commands.{answer};
-ghost use Rattle.raft_machine.specs.Machine.{started, state_of};
+ghost use Rattle.raft_machine.specs.Machine.{apply, started, state_of};
 ghost use Rattle.raft_executor.specs.KeyValue.{ran, request_at, request_in, state_in};
 ghost use Rattle.raft_executor.specs.declared.key_value.TheConstants.{SESSIONS};
 
 use raft_codec::{DecodeError, Reader};
-use raft_machine::{Machine, Outcome, Query, Reply};
+use raft_machine::{Machine, Outcome, Query, Reply, Request};
 use raft_request_codec::decode_request;
 use raft_store::{Entry, Payload, Value};
 use std::alloc::{AllocError, Global};
 use std::marker::Model;
 use std::num::NonZeroUsize;
+use std::rc::Rc;
 
 /// For how many sessions the last answer is remembered. It is part of the state, and so the same at each server.
 pub const SESSIONS: usize = 10_000;
 
-/// A map of byte strings with client sessions: what the requests in the entries make of it.
+/// A map of byte strings with client sessions: what the requests in the entries make of it. Copies share it until one of them runs a
+/// request, or is made its only owner: only then are its keys copied.
 #[derive(Drop)]
 pub struct KeyValue {
     alloc: Global,
     /// Nothing before the first request, so that a new one allocates nothing.
-    machine: Option<Machine>,
+    machine: Option<Rc<Machine>>,
 }
 
 impl Model for KeyValue {
@@ -44,19 +46,52 @@ fn start(alloc: Global) -> Result<Machine, AllocError>
 }
 
 /// The machine, which is made if there is none yet.
-fn machine_or_start(alloc: Global, machine: Option<Machine>) -> Result<Machine, AllocError>
-    ensures { IfOk result (λ made. state_of made ≡ state_in machine) }
+fn machine_or_start(alloc: Global, machine: Option<Rc<Machine>>) -> Result<Rc<Machine>, AllocError>
+    ensures { IfOk result (λ made. state_of made.value ≡ state_in machine) }
 {
     match machine {
         Some(machine) => Ok(machine),
-        None => start(alloc),
+        None => Ok(Rc::new(alloc, start(alloc)?)?),
+    }
+}
+
+/// Runs a request: in place if nobody else has the machine, and else on a copy of it.
+fn apply(alloc: Global, machine: &mut Rc<Machine>, request: Request) -> Result<Outcome, AllocError>
+    ensures { IfOk result (λ outcome. (state_of machine.new.value, outcome) ≡ apply (state_of machine.old.value) request) }
+{
+    if let Some(machine) = Rc::get_mut(machine) {
+        return machine.apply(alloc, request);
+    }
+    let mut copied = machine.copy(alloc)?;
+    let outcome = copied.apply(alloc, request)?;
+    *machine = Rc::new(alloc, copied)?;
+    Ok(outcome)
+}
+
+/// A copy of a machine that others have.
+fn copy_of(alloc: Global, shared: &Rc<Machine>) -> Result<Rc<Machine>, AllocError>
+    ensures { IfOk result (λ copied. state_of copied.value ≡ state_of shared.now.value) }
+{
+    Ok(Rc::new(alloc, shared.copy(alloc)?)?)
+}
+
+/// The machine, which nobody else has, if memory doesn't run out.
+fn own(alloc: Global, shared: Rc<Machine>) -> Rc<Machine>
+    ensures { state_of result.value ≡ state_of shared.value }
+{
+    if Rc::strong_count(&shared) == 1 {
+        return shared;
+    }
+    match copy_of(alloc, &shared) {
+        Ok(own) => own,
+        Err(_) => shared,
     }
 }
 
 /// What comes of a value's bytes: nothing if they are no request.
 fn run(
     alloc: Global,
-    machine: &mut Option<Machine>,
+    machine: &mut Option<Rc<Machine>>,
     bytes: &[u8],
 ) -> Result<Option<Outcome>, AllocError>
     ensures { IfOk result (λ outcome. (state_in machine.new, outcome) ≡ ran (state_in machine.old) (request_at bytes.now)) }
@@ -64,7 +99,7 @@ fn run(
     match decode_request(alloc, bytes) {
         Ok(request) => {
             let mut running = machine_or_start(alloc, machine.take())?;
-            let outcome = running.apply(alloc, request)?;
+            let outcome = apply(alloc, &mut running, request)?;
             *machine = Some(running);
             Ok(Some(outcome))
         }
@@ -85,6 +120,18 @@ impl KeyValue {
             }
             _ => Ok(None),
         }
+    }
+
+    /// The same state, which nobody else has: so the first request needn't wait for a copy. Out of memory, others may still have it.
+    pub fn into_owned(self) -> Self
+        ensures { result ≡ self }
+    {
+        let KeyValue { alloc, machine } = self;
+        let machine = match machine {
+            Some(shared) => Some(own(alloc, shared)),
+            None => None,
+        };
+        KeyValue { alloc, machine }
     }
 
     /// The moment of the state, in milliseconds since the Unix epoch: it never goes back.
@@ -133,7 +180,7 @@ impl raft_packed::Machine for KeyValue {
 
     fn copy(&self) -> Result<KeyValue, AllocError> {
         let machine = match &self.machine {
-            Some(machine) => Some(machine.copy(self.alloc)?),
+            Some(machine) => Some(machine.clone()?),
             None => None,
         };
         Ok(KeyValue {
@@ -153,7 +200,7 @@ impl raft_packed::Machine for KeyValue {
         let machine = Machine::read(reader)?;
         Ok(KeyValue {
             alloc: reader.allocator(),
-            machine: Some(machine),
+            machine: Some(Rc::new(reader.allocator(), machine)?),
         })
     }
 }
