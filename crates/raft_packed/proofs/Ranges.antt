@@ -4,9 +4,10 @@ use Rattle.std.proofs.lemmas.List.{nil_from_length}
 use Rattle.std.proofs.Common.{ap, arith, map, Bor}
 use Rattle.std.specs.Map.Iter.{deref_pair}
 use Rattle.raft_store.specs.declared.entry.Entry.{Entry}
-use Rattle.std.specs.Ordering.{nat_cmp, is_le, is_lt}
+use Rattle.std.specs.List.{AllByRecursion}
+use Rattle.std.specs.Ordering.{nat_cmp, is_gt, is_le, is_lt}
 use Rattle.std.specs.Map.{values_of}
-use Rattle.std.specs.BTreeMap.Range.{entries_between, range_contains}
+use Rattle.std.specs.BTreeMap.Range.{IsLeBy, entries_between, range_contains}
 use Rattle.std.specs.declared.ops.Bound.TheVariants.{Excluded, Included, Unbounded}
 use Rattle.std.proofs.lemmas.Bool.Decides.{nat_tests}
 use Rattle.raft_store.specs.Starting.{entries_of}
@@ -75,3 +76,12 @@ shown_values (x ∷ xs) = ap (λ es. x.1.now ∷ es) (shown_values xs)
 pub entries_shown : (xs : List (Bor ℕ × Bor Entry)) → entries_of (map (λ p. p.1) xs) ≡ values_of (map deref_pair xs)
 entries_shown [] = refl
 entries_shown (x ∷ xs) = ap (λ es. x.1.now ∷ es) (entries_shown xs)
+
+-- entries whose keys are all above an index
+above_test : (upto first q : ℕ) → nat_le first upto ≡ false → is_gt (nat_cmp first q) ≡ false → nat_lt upto q ≡ true
+above_test upto first q more le = grind (arith, nat_tests)
+
+pub all_above : {E : Type 0} (upto first : ℕ) (log : List (ℕ × E)) → nat_le first upto ≡ false
+    → AllByRecursion (IsLeBy nat_cmp first) (map (λ p. p.0) log) → filter (λ p. nat_lt upto p.0) log ≡ log
+all_above upto first [] more le = refl
+all_above upto first (x ∷ log) more le = rw (above_test upto first x.0 more le.0) (ap (λ ys. x ∷ ys) (all_above upto first log more le.1))

@@ -1,6 +1,6 @@
 -- What a store keeps beside its log: a snapshot, what is noted for the next one, and what was applied. A summary is what is kept of
 -- entries but their state.
-use Rattle.std.specs.Prelude.{ℕ, ◌≡◌, Bool, false, List, Option, None, Some, IfSome, fold, nat_lt, unwrap_or}
+use Rattle.std.specs.Prelude.{ℕ, ◌≡◌, Bool, false, List, ◌∷◌, Option, None, Some, IfSome, fold, nat_lt, unwrap_or}
 use Rattle.raft_store.specs.declared.entry.Entry.{Entry}
 use Rattle.raft_store.specs.Store.{between}
 use Rattle.proof_packed_stores.specs.Stores.{Application, Packed, PackedStore, packed_keep_snapshot, with_entries}
@@ -11,6 +11,10 @@ SummaryView = Packed (Unit {0})
 -- the application that has no state
 abbrev pub no_state : Application (Unit {0})
 no_state = record { first = tt; apply = λ state e. tt }
+
+-- the first entry of a log stands at an index or below it
+abbrev pub BeginsUpto : ℕ → List (ℕ × Entry) → Type 0
+BeginsUpto upto log = (first : ℕ × Entry) (rest : List (ℕ × Entry)) → log ≡ first ∷ rest → nat_lt upto first.0 ≡ false
 
 -- what is noted, if anything is, is longer than what ends there
 abbrev pub is_longer : Option SummaryView → ℕ → Bool

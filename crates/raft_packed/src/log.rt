@@ -1,10 +1,11 @@
 //! A log's entries by index.
 
-ghost use Rattle.std.specs.Prelude.{◌≡◌, ◌≤◌, ◌+◌, IfOk, IsTrue, OnOk, filter, fold, nat_lt};
+ghost use Rattle.std.specs.Prelude.{◌≡◌, ◌≤◌, ◌+◌, IfOk, IsTrue, OnOk, false, filter, fold, length, nat_lt, true};
 ghost use Rattle.raft_state.specs.Order.{next};
 ghost use Rattle.raft_store.specs.Entries.{entry_meaning};
 ghost use Rattle.raft_store.specs.Store.{between, put};
 ghost use Rattle.proof_packed_stores.specs.Stores.{with_entries};
+ghost use Rattle.raft_packed.specs.Kept.{BeginsUpto};
 
 use crate::error::PackedError;
 use crate::machine::Machine;
@@ -34,11 +35,38 @@ pub(crate) fn cut_from(log: &mut BTreeMap<u64, Entry>, since: u64)
     log.retain(|index, _| *index < since);
 }
 
-/// Drops the entries up to an index.
+/// Whether the first entry stands at an index or below it.
+fn begins_upto(log: &BTreeMap<u64, Entry>, upto: u64) -> bool
+    ensures some { result ≡ true → BeginsUpto upto log.now.entries }
+    ensures none { result ≡ false → filter (λ p. nat_lt upto p.0) log.now.entries ≡ log.now.entries }
+{
+    match log.first_key_value() {
+        Some((first, _)) => *first <= upto,
+        None => false,
+    }
+}
+
+/// Drops the first entry, if it stands at an index or below it. Answers whether it did.
+fn drop_first_upto(log: &mut BTreeMap<u64, Entry>, upto: u64) -> bool
+    ensures kept { filter (λ p. nat_lt upto p.0) log.new.entries ≡ filter (λ p. nat_lt upto p.0) log.old.entries }
+    ensures some { result ≡ true → length log.new.entries + 1 ≡ length log.old.entries }
+    ensures none { result ≡ false → filter (λ p. nat_lt upto p.0) log.new.entries ≡ log.new.entries }
+{
+    if !begins_upto(log, upto) {
+        return false;
+    }
+    log.pop_first().is_some()
+}
+
+/// Drops the entries up to an index. No other is visited.
 pub(crate) fn drop_upto(log: &mut BTreeMap<u64, Entry>, upto: u64)
     ensures { log.new.entries ≡ filter (λ p. nat_lt upto p.0) log.old.entries }
 {
-    log.retain(|index, _| upto < *index);
+    for _ in 0..log.len() {
+        if !drop_first_upto(log, upto) {
+            return;
+        }
+    }
 }
 
 /// Copies of the entries from one index up to another, the last included.
