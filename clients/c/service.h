@@ -20,7 +20,7 @@
 #include <stdint.h>
 
 /* The version of this header. */
-#define WACHELPO_SERVICE_VERSION 2
+#define WACHELPO_SERVICE_VERSION 3
 
 /* Inputs: what `first`, `second` and the bytes of a call are. A number of bytes is eight bytes, the lowest first. */
 enum wachelpo_input {
@@ -37,7 +37,8 @@ enum wachelpo_input {
     WACHELPO_INITIALIZE = 10, /* one server, once: begins the cluster */
     WACHELPO_MEMBERS = 11,   /* bytes: how many voters, each id, how many learners, each id */
     WACHELPO_STATUS = 12,    /* puts out STATUS */
-    WACHELPO_BEGIN_LOG = 13  /* nothing is on its way to the disk: may put out REPLACE, once the log is long */
+    WACHELPO_BEGIN_LOG = 13, /* nothing is on its way to the disk: may put out REPLACE, once the log is long */
+    WACHELPO_IDLE = 14       /* nothing else is to be done: a little is that can wait. May put out MORE */
 };
 
 /* Outputs: one behind another, each its kind (4 bytes), the number of bytes of its body (4), a number (8), and its body. */
@@ -53,8 +54,9 @@ enum wachelpo_output {
                                 executed last */
     WACHELPO_OUT_ERROR = 7,  /* number: the code that the call returned, body: a text */
     WACHELPO_OUT_OPENED = 8, /* number: how many bytes of the log are kept: the others are cut off, and that is synced, first of all */
-    WACHELPO_OUT_REPLACE = 9 /* body: a new log, which takes the old one's place, whole and synced, before anything is appended; number: where
+    WACHELPO_OUT_REPLACE = 9, /* body: a new log, which takes the old one's place, whole and synced, before anything is appended; number: where
                                 it ends. FLUSHED names places of the new log from then on */
+    WACHELPO_OUT_MORE = 10   /* more is left to be done by IDLE */
 };
 
 /* What a call returns. */

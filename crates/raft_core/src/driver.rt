@@ -134,7 +134,7 @@ fn snapshot_of<M: Machine>(alloc: Global, server: &Server<M>) -> Result<Packed<M
     ensures { IfOk result (λ copied. IfSome server.now.serving (λ v. copied ≡ v.node.store.snap)) }
 {
     match server.node() {
-        Some(node) => node.store().snapshot().copy(),
+        Some(node) => node.store().copy_snapshot(),
         None => Ok(Packed::new(alloc)),
     }
 }
@@ -757,6 +757,24 @@ impl<M: Machine> RaftCore<M> {
         }
     }
 
+    /// Makes a part of the snapshot's state, for which nothing waits: [`Server::fold_some`](raft_packed_server::Server::fold_some). Answers
+    /// whether more is left.
+    pub fn fold_some(&mut self, most: usize) -> Result<bool, CoreError>
+        ensures { OnOk result (self.new ≡ self.old) }
+    {
+        Ok(self.server.fold_some(most)?)
+    }
+
+    /// Makes all of the snapshot's state, if a new log is to begin with it.
+    fn fold_if_long(&mut self) -> Result<(), CoreError>
+        ensures { OnOk result (self.new ≡ self.old) }
+    {
+        if self.log.is_long() {
+            self.server.fold_some(usize::MAX)?;
+        }
+        Ok(())
+    }
+
     /// The log is on disk up to this position: what the steps say whose records stand up to there leaves. If then no bytes
     /// are on their way to the disk and no record waits, what the steps behind them say leaves too. Behind all of it leave the
     /// answers to the reads of each round that is over then.
@@ -767,6 +785,7 @@ impl<M: Machine> RaftCore<M> {
     pub fn flushed(&mut self, position: u64) -> Result<Vec<Output<M>>, CoreError>
         ensures { IfOk result (λ outputs. Releases M.application M.codec position self.old outputs.items self.new) }
     {
+        self.fold_if_long()?;
         let said = self.server.flushed(position)?;
         self.note_flushed(position);
         keep_of(lead_term(&self.policy, &self.server), &mut self.outgoing);

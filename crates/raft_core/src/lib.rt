@@ -16,7 +16,8 @@
 //!    sync, or 0.
 //! 4. [`RaftCore::begin_log`] before `write`, if nothing is on its way to the disk: the bytes of a new log, once the old one is long.
 //!    They take the old log's place, durably and whole, before anything is appended; positions are then those of the new log.
-//! 5. It does what the outputs say, in their order. The reply to a write follows the entry that was executed for it; a read is
+//! 5. [`RaftCore::fold_some`] while nothing else is to be done: the state of a snapshot is made by and by.
+//! 6. It does what the outputs say, in their order. The reply to a write follows the entry that was executed for it; a read is
 //!    answered with what the state machine says after all entries that stand before the answer.
 //!
 //! Times are in milliseconds. They may be in a shorter unit, if all of them are: reads wait for the next unit before the

@@ -6,7 +6,8 @@ use Rattle.std.proofs.Common.{◌∙◌, zero, suc, ap, arith, sym}
 use Rattle.std.proofs.lemmas.Bool.Decides.{nat_tests}
 use Rattle.raft_store.specs.declared.entry.Entry.{Entry}
 use Rattle.raft_store.specs.Store.{between}
-use Rattle.proof_packed_stores.specs.Stores.{Application, Packed, PackedStore, packed_keep_snapshot, packed_meta, with_entries, with_entry}
+use Rattle.proof_packed_stores.specs.Stores.{Application, Packed, PackedStore, packed_keep_snapshot, packed_memberships, packed_meta}
+use Rattle.proof_packed_stores.specs.Stores.{with_entries, with_entry}
 use Rattle.raft_packed.specs.Kept.{IsNamedByEnd, IsNotedFolded, NotedStore, StatesView, SummaryView, folded, folded_from, is_longer, kept_if_noted}
 use Rattle.raft_packed.specs.Kept.{no_state, summary_of, with_state}
 use Rattle.raft_packed.proofs.Ranges.{between_none}
@@ -38,6 +39,11 @@ module _ {S : Type 0} (app : Application S) where
   by_parts : (p : Packed S) (es : List Entry) → with_entries app p es ≡ with_state (with_entries no_state (summary_of p) es) (fold app.apply p.state es)
   by_parts p [] = refl
   by_parts p (e ∷ es) = by_parts (with_entry app p e) es
+
+  -- memberships are the same whatever the state
+  pub memberships_by_parts : (p : Packed S) (es : List Entry)
+      → packed_memberships (with_entries no_state (summary_of p) es) ≡ packed_memberships (with_entries app p es)
+  memberships_by_parts p es = sym (ap packed_memberships (by_parts p es))
 
   pub noted_is : (snap : Packed S) (k : SummaryView) (first : List Entry) (log : List (ℕ × Entry))
       → first ≡ between snap.end k.end log → k ≡ with_entries no_state (summary_of snap) first

@@ -48,6 +48,10 @@ module _ {S : Type 0} where
   abbrev pub IsNamedByEnd : Application S → PackedStore S → Option (Packed S) → Type 0
   IsNamedByEnd app t noted = IfSome noted (λ p. packed_keep_snapshot (folded app t p.end) t ≡ packed_keep_snapshot p t)
 
+  -- a snapshot, once its late entries are applied to its state
+  abbrev pub with_late : Application S → Packed S → List Entry → Packed S
+  with_late app p late = record p { state = fold app.apply p.state late }
+
   -- the state that entries give after those of a snapshot, or after this other state
   abbrev pub state_past : Application S → Option S → Packed S → List Entry → S
   state_past app base snap es = fold app.apply (unwrap_or base snap.state) es

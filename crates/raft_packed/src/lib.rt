@@ -2,7 +2,7 @@
 //!
 //! A [`Machine`] is the application's state machine. Of the entries up to an index a [`Packed`] keeps their end, their last id, their last two
 //! memberships and the state that they give; a [`Summary`] keeps all of it but the state. A [`PackedStore`] has a snapshot that is packed;
-//! of what was applied since it keeps the entries, and makes their state once a snapshot is to have it.
+//! of what was applied since it keeps the entries, and makes their state once a snapshot has them, a few at a time.
 #![tactic(auto)]
 
 pub use proof_packed_stores;

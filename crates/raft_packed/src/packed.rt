@@ -2,13 +2,14 @@
 
 ghost use Rattle.std.specs.Prelude.{◌≡◌, [], IfOk, OnOk, fold};
 ghost use Rattle.proof_packed_stores.specs.Stores.{packed, packed_meta};
-ghost use Rattle.raft_packed.specs.Kept.{summary_of, with_state};
+ghost use Rattle.raft_packed.specs.Kept.{summary_of, with_late, with_state};
 
 use crate::machine::Machine;
 use crate::summary::Summary;
 use raft_state::{LogId, SnapshotMeta, StoredMembership};
 use raft_store::Entry;
 use std::alloc::{AllocError, Global};
+use std::collections::VecDeque;
 use std::marker::Model;
 
 /// What is kept of the entries from index 0 up to another: how many they are, their last id, their last two memberships, and the state
@@ -36,6 +37,18 @@ pub(crate) fn apply_all<M: Machine>(entries: &[Entry], state: &mut M) -> Result<
         state.apply(entry)?;
     }
     Ok(())
+}
+
+/// Applies entries to a state.
+pub(crate) fn apply_queue<M: Machine>(
+    entries: &VecDeque<Entry>,
+    state: &mut M,
+) -> Result<(), AllocError>
+    ensures { OnOk result (state.new ≡ fold M.application.apply state.old entries.now.items) }
+{
+    let (front, back) = entries.as_slices();
+    apply_all(front, state)?;
+    apply_all(back, state)
 }
 
 impl<M: Machine> Packed<M> {
@@ -149,13 +162,25 @@ impl<M: Machine> Packed<M> {
         self.state = state;
     }
 
-    /// Applies entries, with which it is of all of which this is kept.
-    pub(crate) fn advance(&mut self, entries: &[Entry], summary: Summary) -> Result<(), AllocError>
-        ensures { OnOk result (self.new ≡ with_state summary (fold M.application.apply self.old.state entries.now)) }
+    /// Takes what is kept of other entries, but keeps its state.
+    pub(crate) fn take_summary(&mut self, summary: Summary)
+        ensures { self.new ≡ with_state summary self.old.state }
     {
-        apply_all(entries, &mut self.state)?;
         self.summary = summary;
-        Ok(())
+    }
+
+    /// Applies an entry to its state alone.
+    pub(crate) fn apply(&mut self, entry: &Entry) -> Result<(), AllocError>
+        ensures { OnOk result (self.new ≡ record self.old { state = M.application.apply self.old.state entry.now }) }
+    {
+        self.state.apply(entry)
+    }
+
+    /// Applies entries to its state alone.
+    pub(crate) fn apply_all(&mut self, entries: &VecDeque<Entry>) -> Result<(), AllocError>
+        ensures { OnOk result (self.new ≡ with_late M.application self.old entries.now.items) }
+    {
+        apply_queue(entries, &mut self.state)
     }
 
     /// The meta of a snapshot of these entries: their last id and their last membership (Raft paper, section 7). Its own id is empty.

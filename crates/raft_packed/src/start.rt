@@ -13,12 +13,12 @@ ghost use Rattle.raft_store.specs.Store.{past};
 ghost use Rattle.proof_packed_stores.specs.Stores.{packed_committed, packed_memberships, packed_outrun};
 ghost use Rattle.proof_packed_stores.specs.Stores.{packed_rebuilt, packed_rest, packed_restarted};
 ghost use Rattle.proof_packed_stores.specs.Stores.{packed_settled, packed_started, packed_upto, packed_whole, with_entries};
+ghost use Rattle.raft_packed.specs.Kept.{no_state};
 
 use crate::error::PackedError;
 use crate::machine::Machine;
-use crate::packed::Packed;
 use crate::store::PackedStore;
-use crate::summary::note;
+use crate::summary::{Summary, note};
 use raft_state::{LogId, LogIds, RaftState, ServerState, StoredMembership, reaches};
 use raft_store::Entry;
 use std::alloc::{AllocError, Global};
@@ -130,14 +130,14 @@ fn copy_upto(
 }
 
 /// The committed and the effective membership after more entries: the one before the last, if there is one, and the last.
-fn memberships_after<M: Machine>(
-    packed: &Packed<M>,
+fn memberships_after(
+    summary: &Summary,
     entries: &[&Entry],
 ) -> Result<(StoredMembership<u64, ()>, StoredMembership<u64, ()>), AllocError>
-    ensures { IfOk result (λ found. found ≡ packed_memberships (with_entries M.application packed.now (entries_of entries.now))) }
+    ensures { IfOk result (λ found. found ≡ packed_memberships (with_entries no_state summary.now (entries_of entries.now))) }
 {
-    let mut before = packed.before().copy()?;
-    let mut effective = packed.effective().copy()?;
+    let mut before = summary.before.copy()?;
+    let mut effective = summary.effective.copy()?;
     for entry in entries {
         note(entry, &mut before, &mut effective)?;
     }
@@ -202,6 +202,7 @@ impl<M: Machine> PackedStore<M> {
     }
 
     /// The state of an engine that starts on the store, with this committed id.
+    #[tactic(auto, using(crate::proofs::Folded::memberships_by_parts))]
     fn rebuild(
         &self,
         rest: &[&Entry],

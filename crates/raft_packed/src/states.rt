@@ -1,21 +1,22 @@
 //! A store's snapshot, and what it has applied since.
 //!
 //! An entry that is applied is kept, and its state isn't made: that of what was applied is read by nobody before it is a snapshot's. Then
-//! the entries are applied to the old snapshot's state, which nobody needs any more, so no state is copied.
+//! the entries are applied to the old snapshot's state, which nobody needs any more, so no state is copied. They are late even then: a few
+//! are applied at a time, while nothing else is to be done, and all of them before the next snapshot.
 
 ghost use Rattle.std.specs.Prelude.{◌≡◌, [], IfOk, IsTrue, None, OnOk, Some, fold, unwrap_or};
 ghost use Rattle.std.specs.Option.{option_copied, option_map};
 ghost use Rattle.proof_packed_stores.specs.Stores.{packed, with_entries, with_entry};
-ghost use Rattle.raft_packed.specs.Kept.{IsNotedFolded, summary_of};
+ghost use Rattle.raft_packed.specs.Kept.{IsNotedFolded, state_past, summary_of, with_late};
 
 use crate::error::PackedError;
 use crate::log::are_between;
 use crate::machine::Machine;
-use crate::packed::{Packed, apply_all};
+use crate::packed::{Packed, apply_all, apply_queue};
 use crate::summary::Summary;
 use raft_store::Entry;
 use std::alloc::{AllocError, Global};
-use std::collections::BTreeMap;
+use std::collections::{BTreeMap, VecDeque};
 use std::marker::Model;
 use std::mem;
 
@@ -30,7 +31,9 @@ struct Note<M: Machine> {
 /// A snapshot, what is noted for the next one, and what was applied.
 #[derive(Drop)]
 pub(crate) struct States<M: Machine> {
+    /// The snapshot, but that its last entries, the late ones, aren't applied to its state yet.
     snapshot: Packed<M>,
+    late: VecDeque<Entry>,
     /// The state before the first entries, if it isn't the snapshot's.
     base: Option<M>,
     /// The applied entries whose state isn't made: up to what is noted, and then the others.
@@ -43,34 +46,73 @@ pub(crate) struct States<M: Machine> {
 impl<M: Machine> Model for States<M> {
     ghost use Rattle.std.specs.Prelude.{fold, unwrap_or};
     ghost use Rattle.std.specs.Option.{option_map};
-    ghost use Rattle.raft_packed.specs.Kept.{StatesView, state_past, with_state};
+    ghost use Rattle.raft_packed.specs.Kept.{StatesView, state_past, with_late, with_state};
 
     ghost Value = { StatesView M };
 
     ghost view = { λ s. record {
-      snap = s.snapshot;
-      noted = option_map (λ n. with_state n.summary (unwrap_or n.state (state_past M.application s.base s.snapshot s.first.items))) s.note;
-      applied = with_state s.applied (fold M.application.apply (state_past M.application s.base s.snapshot s.first.items) s.rest.items);
+      snap = with_late M.application s.snapshot s.late.items;
+      noted = option_map (λ n. with_state n.summary
+          (unwrap_or n.state (state_past M.application s.base (with_late M.application s.snapshot s.late.items) s.first.items))) s.note;
+      applied = with_state s.applied
+          (fold M.application.apply (state_past M.application s.base (with_late M.application s.snapshot s.late.items) s.first.items) s.rest.items);
     } };
 }
 
-/// The state before the first entries.
-fn base_of<'a, M: Machine>(base: &'a Option<M>, snapshot: &'a Packed<M>) -> &'a M
-    ensures { result.now ≡ unwrap_or base.now snapshot.now.state }
+/// Applies so many late entries to a snapshot's state, at most.
+fn fold_some<M: Machine>(
+    most: usize,
+    late: &mut VecDeque<Entry>,
+    snapshot: &mut Packed<M>,
+) -> Result<(), AllocError>
+    ensures { OnOk result (with_late M.application snapshot.new late.new.items ≡ with_late M.application snapshot.old late.old.items) }
 {
-    match base {
-        Some(state) => state,
-        None => snapshot.state(),
+    for _ in 0..most {
+        let Some(entry) = late.pop_front() else {
+            return Ok(());
+        };
+        snapshot.apply(&entry)?;
     }
+    Ok(())
 }
 
-/// The state that entries give after those of another, which stays.
-fn state_after<M: Machine>(state: &M, entries: &[Entry]) -> Result<M, AllocError>
-    ensures { IfOk result (λ made. made ≡ fold M.application.apply state.now entries.now) }
+/// Applies all late entries to a snapshot's state.
+fn fold_late<M: Machine>(
+    late: &mut VecDeque<Entry>,
+    snapshot: &mut Packed<M>,
+) -> Result<(), AllocError>
+    ensures late { OnOk result (late.new.items ≡ []) }
+    ensures snapshot { OnOk result (snapshot.new ≡ with_late M.application snapshot.old late.old.items) }
 {
-    let mut made = state.copy()?;
-    apply_all(entries, &mut made)?;
-    Ok(made)
+    snapshot.apply_all(late)?;
+    late.clear();
+    Ok(())
+}
+
+/// A copy of a snapshot's state, to which its late entries are applied.
+fn copy_state<M: Machine>(snapshot: &Packed<M>, late: &VecDeque<Entry>) -> Result<M, AllocError>
+    ensures { IfOk result (λ made. made ≡ fold M.application.apply snapshot.now.state late.now.items) }
+{
+    let mut state = snapshot.state().copy()?;
+    apply_queue(late, &mut state)?;
+    Ok(state)
+}
+
+/// A copy of the state that the first entries give.
+fn copy_first<M: Machine>(
+    base: &Option<M>,
+    snapshot: &Packed<M>,
+    late: &VecDeque<Entry>,
+    first: &[Entry],
+) -> Result<M, AllocError>
+    ensures { IfOk result (λ made. made ≡ state_past M.application base.now (with_late M.application snapshot.now late.now.items) first.now) }
+{
+    let mut state = match base {
+        Some(state) => state.copy()?,
+        None => copy_state(snapshot, late)?,
+    };
+    apply_all(first, &mut state)?;
+    Ok(state)
 }
 
 impl<M: Machine> Note<M> {
@@ -102,6 +144,7 @@ impl<M: Machine> States<M> {
     {
         States {
             snapshot: Packed::new(alloc),
+            late: VecDeque::new(alloc),
             base: None,
             first: Vec::new(alloc),
             rest: Vec::new(alloc),
@@ -110,11 +153,27 @@ impl<M: Machine> States<M> {
         }
     }
 
-    /// The snapshot.
-    pub(crate) fn snapshot(&self) -> &Packed<M>
-        ensures { result.now ≡ self.now.snap }
+    /// What is kept of the snapshot, but its state.
+    pub(crate) fn snapshot(&self) -> &Summary
+        ensures { result.now ≡ summary_of self.now.snap }
     {
-        &self.snapshot
+        self.snapshot.summary()
+    }
+
+    /// A copy of the snapshot.
+    pub(crate) fn copy_snapshot(&self) -> Result<Packed<M>, AllocError>
+        ensures { IfOk result (λ copied. copied ≡ self.now.snap) }
+    {
+        let state = copy_state(&self.snapshot, &self.late)?;
+        Ok(Packed::with_state(self.snapshot.summary().copy()?, state))
+    }
+
+    /// Applies so many late entries to the snapshot's state, at most. Answers whether more of them are left.
+    pub(crate) fn fold_some(&mut self, most: usize) -> Result<bool, AllocError>
+        ensures { OnOk result (self.new ≡ self.old) }
+    {
+        fold_some(most, &mut self.late, &mut self.snapshot)?;
+        Ok(!self.late.is_empty())
     }
 
     /// What is kept of what is noted, but its state.
@@ -143,7 +202,7 @@ impl<M: Machine> States<M> {
         };
         let state = match state {
             Some(state) => state.copy()?,
-            None => state_after(base_of(&self.base, &self.snapshot), &self.first)?,
+            None => copy_first(&self.base, &self.snapshot, &self.late, &self.first)?,
         };
         Ok(Some(Packed::with_state(summary.copy()?, state)))
     }
@@ -152,7 +211,7 @@ impl<M: Machine> States<M> {
     pub(crate) fn copy_applied(&self) -> Result<Packed<M>, AllocError>
         ensures { IfOk result (λ copied. copied ≡ self.now.applied) }
     {
-        let mut state = state_after(base_of(&self.base, &self.snapshot), &self.first)?;
+        let mut state = copy_first(&self.base, &self.snapshot, &self.late, &self.first)?;
         apply_all(&self.rest, &mut state)?;
         Ok(Packed::with_state(self.applied.copy()?, state))
     }
@@ -205,16 +264,18 @@ impl<M: Machine> States<M> {
     }
 
     /// Takes this for the snapshot.
-    pub(crate) fn keep(&mut self, built: Packed<M>)
-        ensures { self.new ≡ record self.old { snap = built } }
+    pub(crate) fn keep(&mut self, built: Packed<M>) -> Result<(), AllocError>
+        ensures { OnOk result (self.new ≡ record self.old { snap = built }) }
     {
+        fold_late(&mut self.late, &mut self.snapshot)?;
         let old = mem::replace(&mut self.snapshot, built);
         if self.base.is_none() {
             self.base = Some(old.into_state());
         }
+        Ok(())
     }
 
-    /// Takes what is noted, if anything is, for the snapshot. It stays noted.
+    /// Takes what is noted, if anything is, for the snapshot, whose new entries are late. It stays noted.
     pub(crate) fn keep_noted(&mut self) -> Result<(), AllocError>
         ensures { OnOk result (self.new ≡ record self.old { snap = unwrap_or self.old.noted self.old.snap }) }
     {
@@ -225,14 +286,15 @@ impl<M: Machine> States<M> {
         if let Some(state) = state {
             // a snapshot was installed since
             let built = Packed::with_state(summary, state.copy()?);
-            self.keep(built);
-            return Ok(());
+            return self.keep(built);
         }
+        fold_late(&mut self.late, &mut self.snapshot)?;
         if let Some(state) = self.base.take() {
             self.snapshot.take_state(state);
         }
-        self.snapshot.advance(&self.first, summary)?;
-        self.first.clear();
+        self.snapshot.take_summary(summary);
+        let first = mem::replace(&mut self.first, Vec::new(*self.late.allocator()));
+        self.late = VecDeque::from_vec(first);
         Ok(())
     }
 
@@ -241,6 +303,7 @@ impl<M: Machine> States<M> {
         ensures { OnOk result (self.new ≡ record { snap = brought; noted = self.old.noted; applied = brought }) }
     {
         let applied = brought.summary().copy()?;
+        fold_late(&mut self.late, &mut self.snapshot)?;
         let old = mem::replace(&mut self.snapshot, brought).into_state();
         let base = self.base.take().unwrap_or(old);
         if let Some(note) = self.note.take() {

@@ -169,11 +169,26 @@ impl<M: Machine> PackedStore<M> {
         self.states.copy_noted()
     }
 
-    /// The snapshot.
-    pub fn snapshot(&self) -> &Packed<M>
-        ensures { result.now ≡ self.now.store.snap }
+    /// What is kept of the snapshot, but its state.
+    pub fn snapshot(&self) -> &Summary
+        ensures { result.now ≡ summary_of self.now.store.snap }
     {
         self.states.snapshot()
+    }
+
+    /// A copy of the snapshot, whose state is made first.
+    pub fn copy_snapshot(&self) -> Result<Packed<M>, AllocError>
+        ensures { IfOk result (λ copied. copied ≡ self.now.store.snap) }
+    {
+        self.states.copy_snapshot()
+    }
+
+    /// Makes a part of the snapshot's state, for which nothing waits: applies so many of its entries to it, at most. Answers whether more of
+    /// them are left. Out of memory, nothing is promised of the store.
+    pub fn fold_some(&mut self, most: usize) -> Result<bool, AllocError>
+        ensures { OnOk result (self.new ≡ self.old) }
+    {
+        self.states.fold_some(most)
     }
 
     /// What the snapshot says of itself.
@@ -192,8 +207,7 @@ impl<M: Machine> PackedStore<M> {
             return Ok(());
         }
         self.meta = built.meta(self.alloc)?;
-        self.states.keep(built);
-        Ok(())
+        self.states.keep(built)
     }
 
     /// Notes what was applied for the next snapshot: its state is made once that is kept.

@@ -121,7 +121,7 @@ fn replication<M: Machine>(
                 origin: origin(turn, session_id, RequestId::Snapshot { id: *id }),
                 snapshot,
             };
-            Ok((body, Some(store.snapshot().copy()?)))
+            Ok((body, Some(store.copy_snapshot()?)))
         }
     }
 }

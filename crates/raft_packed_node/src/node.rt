@@ -200,6 +200,13 @@ impl<M: Machine> Node<M> {
         }
     }
 
+    /// Makes a part of the snapshot's state, for which nothing waits: [`PackedStore::fold_some`].
+    pub fn fold_some(&mut self, most: usize) -> Result<bool, AllocError>
+        ensures { OnOk result (self.new ≡ self.old) }
+    {
+        self.store.fold_some(most)
+    }
+
     /// The greatest moment of the node's events, in milliseconds.
     pub fn moment(&self) -> u64
         ensures { result ≡ self.now.moment }

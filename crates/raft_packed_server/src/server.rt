@@ -19,14 +19,14 @@ use crate::checkpoint::begin_log;
 use crate::error::{OpenError, ServerError};
 use crate::records::Records;
 use crate::recovery::{Recovery, recover};
-use crate::serving::{Serving, hand_out, release, take_step};
+use crate::serving::{Serving, fold_some, hand_out, release, take_step};
 use raft_frames::LogId;
 use raft_node::act::Act;
 use raft_node::given::Given;
 use raft_packed_wire::raft_packed::Machine;
 use raft_packed_wire::raft_packed_node::{Node, Outbox, PackedAct};
 use raft_schedule::event::{Outcome, Start};
-use std::alloc::Global;
+use std::alloc::{AllocError, Global};
 use std::marker::Model;
 
 /// A server without input and output: a node, the bytes for its log's end, and what waits until they are on disk.
@@ -225,6 +225,24 @@ impl<M: Machine> Server<M> {
             return Err(ServerError::Stopped);
         };
         Ok(release(self.alloc, serving, position))
+    }
+
+    /// Makes a part of the snapshot's state, for which nothing waits: [`Node::fold_some`]. Answers whether more is left. Out of memory, the
+    /// server has stopped.
+    pub fn fold_some(&mut self, most: usize) -> Result<bool, AllocError>
+        ensures ok { OnOk result (self.new ≡ self.old) }
+        ensures err { OnErr result (self.new ≡ record self.old { serving = None }) }
+    {
+        let Some(serving) = &mut self.serving else {
+            return Ok(false);
+        };
+        match fold_some(most, serving) {
+            Ok(is_more) => Ok(is_more),
+            Err(error) => {
+                stop(&mut self.serving);
+                Err(error)
+            }
+        }
     }
 
     /// The node, unless the server has stopped.

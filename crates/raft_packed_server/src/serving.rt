@@ -9,6 +9,8 @@ ghost use Rattle.proof_logs.specs.proof_servers.Servers.{reserved_for};
 ghost use Rattle.proof_packed_servers.specs.Servers.{packed_call_effect};
 ghost use Rattle.proof_logs.specs.Batches.{bytes_of};
 ghost use Rattle.raft_packed_wire.specs.Named.{IsBeganBy};
+ghost use Rattle.raft_packed_wire.specs.declared.named.Named.TheVariants as names;
+ghost use Rattle.raft_packed_wire.specs.declared.record.PackedBegan.TheVariants as made;
 ghost use Rattle.raft_packed_server.specs.Began.{built_end, named_left_of, named_no_changes, prepared_for};
 ghost use Rattle.raft_packed_server.specs.Fits.{FitsAt};
 ghost use Rattle.raft_packed_server.specs.Logs.{logged_by};
@@ -64,6 +66,14 @@ fn began_of<M: Machine>(
     }
 }
 
+/// The snapshot was built: the log has all of it.
+fn whole_of<M: Machine>(alloc: Global, node: &Node<M>) -> Result<Began<M>, AllocError>
+    ensures { IfOk result (λ began. began ≡ made.Built (names.Whole node.now.store.snap)) }
+{
+    let snapshot = node.store().copy_snapshot()?;
+    Began::built(alloc, &snapshot)
+}
+
 /// The end of a build keeps what is noted, unless nothing is or the engine is spent. It is kept at once, so no state is copied. The log names it by
 /// its end, if that names it.
 fn build_of<M: Machine>(alloc: Global, node: &mut Node<M>) -> Result<Began<M>, AllocError>
@@ -78,7 +88,7 @@ fn build_of<M: Machine>(alloc: Global, node: &mut Node<M>) -> Result<Began<M>, A
     if is_named {
         Began::new(alloc, &PackedBegan::Built(Named::Folded(end)))
     } else {
-        Began::built(alloc, node.store().snapshot())
+        whole_of(alloc, node)
     }
 }
 
@@ -208,6 +218,13 @@ pub fn take_step<M: Machine>(
     push_record(records, reserved, node.moment(), &prepared)?;
     serving.steps = prepared.steps;
     Ok(outcome)
+}
+
+/// Makes a part of the snapshot's state, for which nothing waits: [`Node::fold_some`].
+pub fn fold_some<M: Machine>(most: usize, serving: &mut Serving<M>) -> Result<bool, AllocError>
+    ensures { OnOk result (serving.new ≡ serving.old) }
+{
+    serving.node.fold_some(most)
 }
 
 /// The header, if the log has none yet: it is written once.

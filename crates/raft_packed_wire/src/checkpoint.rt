@@ -40,7 +40,7 @@ fn write_vote<M: Machine>(out: &mut Vec<u8>, store: &PackedStore<M>) -> Result<(
 fn write_snapshot<M: Machine>(out: &mut Vec<u8>, store: &PackedStore<M>) -> Result<(), AllocError>
     ensures { Writes (packed_change (kept M.codec)) (made.Install store.now.store.meta store.now.store.snap) result out.old.items out.new.items }
 {
-    write_install(out, store.meta(), store.snapshot())
+    write_install(out, store.meta(), &store.copy_snapshot()?)
 }
 
 /// Appends that the log is purged, if it is.

@@ -8,7 +8,8 @@
 //!    [`Service::client_bytes`] and [`Service::disconnect`] what clients do.
 //! 3. [`Service::write`] whenever the disk is free, and [`Service::flushed`] once bytes that were to be appended are synced; and
 //!    before and after `write` too, with the position of the last sync or 0, for what waits for no sync.
-//! 4. It does what the outputs say, in their order.
+//! 4. [`Service::idle`] while nothing else is to be done.
+//! 5. It does what the outputs say, in their order.
 //!
 //! A request is read when its bytes come, and stands in the log from the next write on. It is answered once its entry is
 //! executed. A query is answered by the state that the machine has once what came before the query is executed; it puts nothing

@@ -33,6 +33,9 @@ use raft_node::given::Given;
 use raft_state::Items;
 use std::alloc::{AllocError, Global};
 
+/// How many entries are applied to the snapshot's state at a time: each takes some microseconds.
+const AT_ONCE: usize = 8;
+
 /// A replicated key-value service at one server, without input and output.
 #[derive(Drop)]
 pub struct Service {
@@ -206,6 +209,14 @@ impl Service {
         ensures { BeginsLog self.old result self.new }
     {
         self.intake.core.begin_log(&self.id)
+    }
+
+    /// Does a little for which nothing waits, in less than a millisecond, as [`RaftCore::fold_some`]: to be called while nothing else is to be
+    /// done. Answers whether more is left.
+    pub fn idle(&mut self) -> Result<bool, CoreError>
+        ensures { OnOk result (self.new ≡ self.old) }
+    {
+        self.intake.core.fold_some(AT_ONCE)
     }
 
     /// The log is on disk up to this position: what its records say is done, entries are executed, and clients are answered.

@@ -5,7 +5,7 @@ use Rattle.std.specs.List.{flat_map}
 use Rattle.raft_service.specs.declared.output.Output.{Output}
 use Rattle.raft_service.specs.declared.output.Output.TheVariants as outputs
 use Rattle.service_host.specs.declared.frames.OutputKind.{OutputKind}
-use Rattle.service_host.specs.declared.frames.OutputKind.TheVariants.{Send, Append, ToClient, Close, Taken, Status, Error, Opened, Replace}
+use Rattle.service_host.specs.declared.frames.OutputKind.TheVariants.{Send, Append, ToClient, Close, Taken, Status, Error, Opened, Replace, More}
 
 abbrev pub code_of : OutputKind → ℕ
 code_of Send = 1
@@ -17,6 +17,7 @@ code_of Status = 6
 code_of Error = 7
 code_of Opened = 8
 code_of Replace = 9
+code_of More = 10
 
 -- its kind, how many bytes its body has, a number, and the body; the lowest byte of a number first
 abbrev pub framed : OutputKind → ℕ → List ℕ → List ℕ

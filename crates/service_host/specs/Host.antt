@@ -1,5 +1,5 @@
 -- What a call of a host does.
-use Rattle.std.specs.Prelude.{ℕ, ◌≡◌, ◌-◌, drop, min, take, length, List, [], ◌∷◌, ◌++◌, Option, Some, None}
+use Rattle.std.specs.Prelude.{ℕ, ◌≡◌, ◌⊎◌, ◌-◌, drop, min, take, length, List, [], ◌∷◌, ◌++◌, Option, Some, None}
 use Rattle.raft_service.specs.raft_core.Calls.{Moves, Receives, Releases, Ticks, Writes}
 use Rattle.raft_executor.specs.KeyValue.{application}
 use Rattle.raft_machine.specs.Bytes.{state}
@@ -13,7 +13,8 @@ use Rattle.raft_service.specs.declared.settings.Settings as service_settings
 use Rattle.service_host.specs.declared.frames.OutputKind.TheVariants as kind
 use Rattle.service_host.specs.declared.host.Host.{Host}
 use Rattle.service_host.specs.declared.inputs.Input.{Input}
-use Rattle.service_host.specs.declared.inputs.Input.TheVariants.{BeginLog, Settings, Open, Peer, Tick, Connect, Client, Disconnect, Write, Flushed, Initialize, Members, Status}
+use Rattle.service_host.specs.declared.inputs.Input.TheVariants.{BeginLog, Idle, Settings, Open, Peer, Tick, Connect, Client}
+use Rattle.service_host.specs.declared.inputs.Input.TheVariants.{Disconnect, Write, Flushed, Initialize, Members, Status}
 use Rattle.service_host.specs.Frames.{framed, frames}
 use Rattle.service_host.specs.Inputs.{IsInput}
 
@@ -54,6 +55,7 @@ Does (Flushed position) old new out = Puts (Calls (Releases application state po
 Does Initialize old new out = Begun old new out
 Does (Members voters learners) old new out = (new ≡ old) × (out ≡ [])
 Does Status old new out = new ≡ old
+Does Idle old new out = (new ≡ old) × ((out ≡ []) ⊎ (out ≡ framed kind.More 0 []))
 
 -- what the next read gives
 abbrev pub unread : Host → List ℕ

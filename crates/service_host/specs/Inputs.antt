@@ -1,7 +1,8 @@
 -- Inputs as numbers and bytes.
 use Rattle.std.specs.Prelude.{ℕ, ◌≡◌, List}
 use Rattle.service_host.specs.declared.inputs.Input.{Input}
-use Rattle.service_host.specs.declared.inputs.Input.TheVariants.{BeginLog, Settings, Open, Peer, Tick, Connect, Client, Disconnect, Write, Flushed, Initialize, Members, Status}
+use Rattle.service_host.specs.declared.inputs.Input.TheVariants.{BeginLog, Idle, Settings, Open, Peer, Tick, Connect, Client}
+use Rattle.service_host.specs.declared.inputs.Input.TheVariants.{Disconnect, Write, Flushed, Initialize, Members, Status}
 
 -- what the input of a number is made of; the time and the members are read from the bytes
 abbrev pub IsInput : ℕ → ℕ → ℕ → List ℕ → Input → Type 0
@@ -18,3 +19,4 @@ IsInput number first second bytes Initialize = number ≡ 10
 IsInput number first second bytes (Members voters learners) = number ≡ 11
 IsInput number first second bytes Status = number ≡ 12
 IsInput number first second bytes BeginLog = number ≡ 13
+IsInput number first second bytes Idle = number ≡ 14

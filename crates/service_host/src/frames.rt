@@ -28,6 +28,8 @@ pub enum OutputKind {
     Opened,
     /// The bytes of a new log, which take the old one's place; it ends at the number.
     Replace,
+    /// More is left to be done while nothing else is.
+    More,
 }
 
 impl OutputKind {
@@ -45,6 +47,7 @@ impl OutputKind {
             OutputKind::Error => 7,
             OutputKind::Opened => 8,
             OutputKind::Replace => 9,
+            OutputKind::More => 10,
         }
     }
 }

@@ -3,6 +3,7 @@
 ghost use Rattle.std.specs.Prelude.{◌≡◌, ◌≤◌, ◌++◌, [], IfOk, OnOk, length, take, drop, min};
 ghost use Rattle.service_host.specs.Frames.{frames};
 ghost use Rattle.service_host.specs.Host.{Does, Feeding, replaced, unread};
+ghost use Rattle.service_host.specs.declared.inputs.Input.TheVariants.{Idle};
 
 use crate::error::HostError;
 use crate::frames::{OutputKind, write_all, write_output, write_status};
@@ -75,6 +76,17 @@ fn replace(written: Option<Written>, out: &mut Vec<u8>) -> Result<(), HostError>
     Ok(())
 }
 
+/// Lets a service do a little, and tells whether more is left.
+fn idle(service: &mut Service, out: &mut Vec<u8>) -> Result<(), HostError>
+    requires { out.old.items ≡ [] }
+    ensures { OnOk result (Does Idle service.old service.new out.new.items) }
+{
+    if service.idle()? {
+        write_output(out, OutputKind::More, 0, &[])?;
+    }
+    Ok(())
+}
+
 /// Hands an input to the service.
 fn serve(
     alloc: Global,
@@ -107,6 +119,7 @@ fn serve(
         Input::Write => put(service.write()?, out),
         Input::BeginLog => replace(service.begin_log(), out),
         Input::Flushed(position) => put(service.flushed(position)?, out),
+        Input::Idle => idle(service, out),
     }
 }
 

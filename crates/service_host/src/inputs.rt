@@ -46,6 +46,8 @@ pub enum Input<'a> {
     },
     /// What the service tells of itself is wanted.
     Status,
+    /// Nothing else is to be done.
+    Idle,
 }
 
 /// The time, as its bytes.
@@ -89,6 +91,7 @@ fn refusal_of(unread: Unread) -> HostError {
 /// | 11 | members | | | voters and learners, each behind how many there are |
 /// | 12 | status | | | |
 /// | 13 | begin a log | | | |
+/// | 14 | idle | | | |
 pub fn input_of(
     alloc: Global,
     number: u32,
@@ -122,6 +125,7 @@ pub fn input_of(
         }
         12 => Ok(Input::Status),
         13 => Ok(Input::BeginLog),
+        14 => Ok(Input::Idle),
         _ => Err(HostError::BadInput),
     }
 }

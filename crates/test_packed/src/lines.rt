@@ -4,6 +4,7 @@
 //! - `delete ID`, `purge ID`, `commit ID`: commands
 //! - `note`: notes what is applied, as for a build or to be sent; `keep`: keeps it as a snapshot; `install`: installs it
 //! - `mark`: the store itself notes what it has applied; `keep mark`: it keeps that as a snapshot; `drop mark`: it forgets it
+//! - `fold NUMBER`: applies so many late entries to the snapshot's state, and prints whether more are left
 //! - `other`: another, new store, from which what is noted may be installed
 //! - `log`, `snapshot`, `applied`, `marked`: print what is kept
 //! - `range ID ID`: prints how many entries stand above an id up to another; `none` is no id
@@ -156,6 +157,17 @@ fn mark(store: &mut PackedStore<Digest>, words: &[&str]) -> Result<()> {
     }
 }
 
+/// Applies so many late entries to the snapshot's state.
+fn fold(store: &mut PackedStore<Digest>, word: &str, given: &mut Vec<u8>) -> Result<()> {
+    let is_more = store.fold_some(number(word)? as usize)?;
+    let left = if is_more {
+        "more are left"
+    } else {
+        "none is left"
+    };
+    put_line(format_args!("{left}"), given)
+}
+
 /// How many entries a range has.
 fn count(store: &PackedStore<Digest>, prev: &str, last: &str) -> Result<usize> {
     let prev = optional_id(prev)?;
@@ -206,6 +218,7 @@ fn step(alloc: Global, desk: &mut Desk, words: &[&str], given: &mut Vec<u8>) -> 
             Ok(())
         }
         [word @ ("log" | "snapshot" | "applied" | "marked")] => question(&desk.store, word, given),
+        ["fold", word] => fold(&mut desk.store, word, given),
         ["start", word] => start(alloc, desk, word, given),
         ["range", prev, last] => range(&desk.store, prev, last, given),
         _ => execute(alloc, desk, words),

@@ -69,7 +69,7 @@ pub fn put_snapshot(store: &PackedStore<Digest>, given: &mut Vec<u8>) -> Result<
     put("meta ", given)?;
     put_id(store.meta().last_log_id, given)?;
     put("\n", given)?;
-    put_packed("snapshot", store.snapshot(), given)
+    put_packed("snapshot", &store.copy_snapshot()?, given)
 }
 
 /// Whether a node runs, in which role, its moment, and what is noted for a snapshot.

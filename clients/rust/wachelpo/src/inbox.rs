@@ -39,6 +39,9 @@ impl Mail {
 pub(crate) trait Handler: Send {
     /// Handles all of it, and says how long it waits for more; or that the node has ended, and why.
     fn handle(&mut self, mail: &mut Mail) -> ControlFlow<Result<(), Error>, Duration>;
+
+    /// Does a little that can wait, and says whether more is left; or that the node has ended, and why.
+    fn idle(&mut self) -> ControlFlow<Result<(), Error>, bool>;
 }
 
 /// A handler at work.
@@ -128,6 +131,33 @@ impl Inbox {
         true
     }
 
+    /// Lets the node do a little that can wait, on this thread, unless it has something else to do; and says whether more is left.
+    pub(crate) fn idle(&self) -> bool {
+        let Ok(mut work) = self.0.work.try_lock() else {
+            return false;
+        };
+        let Some(work) = &mut *work else { return false };
+        if !self.state().is_quiet() {
+            return false;
+        }
+        match work.handler.idle() {
+            ControlFlow::Continue(is_more) => is_more,
+            ControlFlow::Break(end) => {
+                self.end(end);
+                self.0.is_there.notify_one();
+                false
+            }
+        }
+    }
+
+    /// The node has ended.
+    fn end(&self, end: Result<(), Error>) {
+        let mut state = self.state();
+        state.has_ended = true;
+        state.mail = Mail::default();
+        state.end = Some(end);
+    }
+
     /// Whether nothing waits.
     pub(crate) fn is_empty(&self) -> bool {
         self.state().mail.is_empty()
@@ -188,10 +218,7 @@ impl Inbox {
         match handler.handle(mail) {
             ControlFlow::Continue(patience) => patience,
             ControlFlow::Break(end) => {
-                let mut state = self.state();
-                state.has_ended = true;
-                state.mail = Mail::default();
-                state.end = Some(end);
+                self.end(end);
                 Duration::ZERO
             }
         }
@@ -228,6 +255,47 @@ mod tests {
                 Err(_) => ControlFlow::Break(Err(Error::Ended)),
             }
         }
+
+        fn idle(&mut self) -> ControlFlow<Result<(), Error>, bool> {
+            ControlFlow::Continue(false)
+        }
+    }
+
+    /// Has so much to do that can wait.
+    struct Idler(usize);
+
+    impl Handler for Idler {
+        fn handle(&mut self, mail: &mut Mail) -> ControlFlow<Result<(), Error>, Duration> {
+            mail.arrivals.clear();
+            ControlFlow::Continue(LONG)
+        }
+
+        fn idle(&mut self) -> ControlFlow<Result<(), Error>, bool> {
+            match self.0.checked_sub(1) {
+                Some(left) => {
+                    self.0 = left;
+                    ControlFlow::Continue(left > 0)
+                }
+                None => ControlFlow::Break(Err(Error::Ended)),
+            }
+        }
+    }
+
+    #[test]
+    fn what_can_wait_is_done_while_nothing_else_is_to_be() {
+        let inbox = Inbox::default();
+        assert!(!inbox.idle());
+        let (handler, mail) = (Box::new(Idler(2)), Mail::default());
+        *inbox.work() = Some(Work { handler, mail });
+        inbox.post(&mut bytes(1));
+        // (the node has that to do)
+        assert!(!inbox.idle());
+        assert!(inbox.try_handle());
+        assert!(inbox.idle());
+        assert!(!inbox.idle());
+        // a node that fails at it has ended
+        assert!(!inbox.idle());
+        assert!(inbox.state().has_ended);
     }
 
     fn bytes(count: usize) -> Arrivals {

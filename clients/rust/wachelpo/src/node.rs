@@ -567,6 +567,7 @@ impl<N: Network> Runner<N> {
                 Output::Close(client) => self.deliveries.push(Delivery::Close(client), &[]),
                 Output::Taken(count) => came.taken = count,
                 Output::Status(status) => came.status = Some(status),
+                Output::More => came.is_more = true,
                 Output::Append { end, bytes } => next = Some((Change::Append, end, bytes)),
                 Output::Replace { end, bytes } => next = Some((Change::Replace, end, bytes)),
             }
@@ -607,12 +608,20 @@ impl<N: Network> Handler for Runner<N> {
             Err(error) => ControlFlow::Break(Err(error)),
         }
     }
+
+    fn idle(&mut self) -> ControlFlow<Result<(), Error>, bool> {
+        match self.take(Input::Idle) {
+            Ok(came) => ControlFlow::Continue(came.is_more),
+            Err(error) => ControlFlow::Break(Err(error)),
+        }
+    }
 }
 
 /// What a call came to, besides what is delivered.
 #[derive(Default)]
 struct Came {
     taken: usize,
+    is_more: bool,
     status: Option<Status>,
     refused: Option<String>,
 }

@@ -16,7 +16,7 @@ extern "C" {
 }
 
 /// The version of the library that this is written for.
-const VERSION: u32 = 2;
+const VERSION: u32 = 3;
 /// A buffer above this size is given back after its call.
 const KEPT: usize = 4 << 20;
 
@@ -44,6 +44,7 @@ pub(crate) enum Input<'a> {
     Members(&'a Members),
     Status,
     BeginLog,
+    Idle,
 }
 
 /// What comes of it.
@@ -56,6 +57,7 @@ pub(crate) enum Output<'a> {
     Close(ClientId),
     Taken(usize),
     Status(Status),
+    More,
 }
 
 /// Why a call was refused: nothing was done.
@@ -83,6 +85,7 @@ mod kind {
     pub const STATUS: u32 = 6;
     pub const OPENED: u32 = 8;
     pub const REPLACE: u32 = 9;
+    pub const MORE: u32 = 10;
 }
 
 mod code {
@@ -240,6 +243,7 @@ impl Service {
             Input::Members(members) => self.exchange(11, 0, 0, &members_bytes(members)),
             Input::Status => self.exchange(12, 0, 0, &[]),
             Input::BeginLog => self.exchange(13, 0, 0, &[]),
+            Input::Idle => self.exchange(14, 0, 0, &[]),
         };
         match code {
             0 => Ok(Ok(Outputs(&self.out[..self.count]))),
@@ -286,6 +290,7 @@ impl<'a> Iterator for Outputs<'a> {
                 kind::CLIENT => return Some(Output::Client { client, bytes: body }),
                 kind::CLOSE => return Some(Output::Close(client)),
                 kind::TAKEN => return Some(Output::Taken(number as usize)),
+                kind::MORE => return Some(Output::More),
                 kind::STATUS => match status_of(body) {
                     Some(status) => return Some(Output::Status(status)),
                     None => continue,

@@ -1,7 +1,6 @@
-use Rattle.std.proofs.Common.{None, Some, ap, sym, ◌≡◌, ◌∙◌}
+use Rattle.std.proofs.Common.{None, Some, sym, ◌≡◌, ◌∙◌}
 use Rattle.std.proofs.lemmas.Result.{IfOk-weaker}
 use Rattle.raft_node.specs.declared.act.Act.TheVariants.{FinishSnapshot}
-use Rattle.proof_packed.specs.Stores.{Packed, PackedStore}
 use Rattle.raft_packed_wire.specs.Named.{IsBeganBy}
 use Rattle.raft_packed_wire.specs.declared.named.Named.{Named}
 use Rattle.raft_packed_wire.specs.declared.named.Named.TheVariants.{Folded, Whole}
@@ -49,15 +48,12 @@ returns-else-is_named-clause-began g c =
     let n = c.args.node.now in
     let end = c.in-Some.end in
     let some : built_end n ≡ Some end = sym c.built_end.ensures ∙ c.in-Some.is in
-    let kept : c.snapshot.result.now ≡ c.keep_noted.new.self.store.snap =
-    c.snapshot.ensures ∙ ap (λ (t : PackedStore g.row.M.Denot). t.snap) c.store.ensures in
-    IfOk-weaker c.built.result (λ (b : PackedBegan (Named g.row.M.Denot)). b ≡ Built (Whole c.snapshot.result.now))
+    IfOk-weaker c.whole_of.result (λ (b : PackedBegan (Named g.row.M.Denot)). b ≡ Built (Whole c.keep_noted.new.self.store.snap))
     (λ (b : PackedBegan (Named g.row.M.Denot)). IsBeganBy app n.store b (packed_call_effect FinishSnapshot n))
-    (λ b is. whole_names app n c.keep_noted.new.self end b some c.in_ok-keep_noted.ensures
-    (is ∙ ap (λ (p : Packed g.row.M.Denot). Built (Whole p)) kept)) c.built.ensures
+    (λ b is. whole_names app n c.keep_noted.new.self end b some c.in_ok-keep_noted.ensures is) c.whole_of.ensures
 
 pub returns-else-is_named-clause-node : goal.returns-else-is_named-clause-node
 returns-else-is_named-clause-node g c =
     let n = c.args.node.now in
     let some : built_end n ≡ Some c.in-Some.end = sym c.built_end.ensures ∙ c.in-Some.is in
-    on_any c.built.result (c.in_ok-keep_noted.ensures ∙ sym (ends n c.in-Some.end some).prepared)
+    on_any c.whole_of.result (c.in_ok-keep_noted.ensures ∙ sym (ends n c.in-Some.end some).prepared)

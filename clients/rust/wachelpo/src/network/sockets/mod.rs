@@ -218,6 +218,8 @@ pub(crate) struct Sockets {
     arrivals: Arrivals,
     gathering: Gathering,
     is_congested: bool,
+    /// Whether the node may have something to do that can wait.
+    may_idle: bool,
     /// Connections that may have something to read, and those that something is to be written to.
     ready: Vec<usize>,
     dirty: Vec<usize>,
@@ -306,6 +308,7 @@ impl Sockets {
             arrivals: Arrivals::new(),
             gathering: Gathering::default(),
             is_congested: false,
+            may_idle: false,
             ready: Vec::new(),
             dirty: Vec::new(),
             chunk: vec![0; CHUNK],
@@ -324,6 +327,7 @@ impl Sockets {
             let patience = match (is_behind, self.is_congested) {
                 (true, _) => Duration::ZERO,
                 (false, true) => Duration::from_millis(1),
+                (false, false) if self.may_idle => Duration::ZERO,
                 (false, false) => LOOK,
             };
             if let Err(error) = self.poll.poll(&mut events, Some(patience)) {
@@ -332,6 +336,10 @@ impl Sockets {
                     thread::sleep(PAUSE);
                 }
                 continue;
+            }
+            // also while clients are waited for that were just answered
+            if events.is_empty() && !has_ready && self.dirty.is_empty() && self.may_idle {
+                self.may_idle = self.setup.inbox.idle();
             }
             self.outbox().is_awake = true;
             for event in &events {
@@ -363,6 +371,7 @@ impl Sockets {
             self.gathering.end();
         }
         self.frames.append(&mut self.arrivals);
+        self.may_idle |= !self.frames.is_empty();
         let waiting = self.hand_in();
         self.is_congested = waiting > CONGESTED;
         self.deliver_all(deliveries, false);

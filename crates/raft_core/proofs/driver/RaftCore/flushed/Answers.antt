@@ -40,7 +40,7 @@ returns g c =
       reads = c.leave.new.reads;
       outgoing = c.leave.new.going.items;
     }))
-    c.self.view_is
+    (c.self.view_is ∙ c.in_ok-fold_if_long.ensures)
     (releases app codec c.args.position old view out c.flushed.new.self c.in_ok-said.said c.in_ok-leave.ensures.outputs.0
     c.leave.new.requests c.leave.new.executed c.leave.new.reads c.keep_of.new.outgoing.items c.leave.new.going.items
     (c.self-2.view_is ∙ c.note_flushed.ensures) c.in_ok-said.ensures.flushes

@@ -5,7 +5,7 @@ use Rattle.raft_store.specs.declared.entry.Entry.{Entry}
 use Rattle.raft_store.specs.Store.{between}
 use Rattle.proof_packed_stores.specs.Stores.{Packed, with_entries}
 use Rattle.raft_packed.specs.declared.states.Note.{Note}
-use Rattle.raft_packed.specs.Kept.{IsNotedFolded, StatesView, SummaryView, no_state, state_past, summary_of, with_state}
+use Rattle.raft_packed.specs.Kept.{IsNotedFolded, StatesView, SummaryView, no_state, state_past, summary_of, with_late, with_state}
 use Rattle.raft_packed.proofs.Folded.{none_by, noted_is}
 use Rattle.raft_packed.proofs.states.States.is_noted_folded.Goals as goal
 use Rattle.raft_packed.proofs.states.States.is_noted_folded.Goals.{then-is_none, else-is_none}
@@ -16,14 +16,15 @@ returns-then-are_between g c = λ t.
     let s = c.self.inside in
     let k = c.in-Some-None.summary in
     let es : List Entry = s.first.items in
+    let snap = with_late app s.snapshot s.late.items in
     let log = c.args.log.now.entries in
     let none : c.in-Some-None.field-0.state ≡ None = cc in
     let same : c.in-Some-None.field-0.summary ≡ k = cc in
-    let noted : option_map (λ (n : Note g.row.M.Denot). with_state n.summary (unwrap_or n.state (state_past app s.base s.snapshot es))) s.note
-    ≡ Some (with_state k (state_past app s.base s.snapshot es)) =
-    ap (λ (o : Option (Note g.row.M.Denot)). option_map (λ n. with_state n.summary (unwrap_or n.state (state_past app s.base s.snapshot es))) o)
+    let noted : option_map (λ (n : Note g.row.M.Denot). with_state n.summary (unwrap_or n.state (state_past app s.base snap es))) s.note
+    ≡ Some (with_state k (state_past app s.base snap es)) =
+    ap (λ (o : Option (Note g.row.M.Denot)). option_map (λ n. with_state n.summary (unwrap_or n.state (state_past app s.base snap es))) o)
     c.in-Some-None.is
-    ∙ (λ i. Some (with_state (same i) (unwrap_or (none i) (state_past app s.base s.snapshot es)))) in
+    ∙ (λ i. Some (with_state (same i) (unwrap_or (none i) (state_past app s.base snap es)))) in
     let there = rw c.in-Some-None.is at (ap (λ (x : SummaryView). x.end) c.summary.view_is) in
     let end : c.summary.inside.end ≡ k.end = there ∙ ap (λ (x : SummaryView). x.end) same in
     let found : (s.base ≡ None) × (es ≡ between s.snapshot.end k.end log) = elim c.if-is_none.branch [
@@ -39,5 +40,5 @@ returns-then-are_between g c = λ t.
     ∙ ap (λ (xs : List Entry). with_entries no_state (summary_of s.snapshot) xs) c.deref-then-are_between.ensures.value) in
     let sums : k ≡ with_entries no_state (summary_of s.snapshot) es = cc (summed, c.in-Some-None.summary-is) in
     subst (λ (v : StatesView g.row.M.Denot). IsNotedFolded app v.snap log v.noted) c.self.view_is
-    (subst (λ (q : Option (Packed g.row.M.Denot)). IsNotedFolded app s.snapshot log q) (sym noted)
-    (ap (λ (b : Option g.row.M.Denot). with_state k (state_past app b s.snapshot es)) found.0 ∙ noted_is app s.snapshot k es log found.1 sums))
+    (subst (λ (q : Option (Packed g.row.M.Denot)). IsNotedFolded app snap log q) (sym noted)
+    (ap (λ (b : Option g.row.M.Denot). with_state k (state_past app b snap es)) found.0 ∙ noted_is app snap k es log found.1 sums))
