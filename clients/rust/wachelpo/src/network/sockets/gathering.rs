@@ -5,7 +5,7 @@ use std::time::{Duration, Instant};
 /// How long is waited for them, as by PostgreSQL's `commit_delay`: some two writes to the disk.
 const LONGEST: Duration = Duration::from_micros(150);
 /// So many bytes are worth a write by themselves.
-const ENOUGH: usize = 16 << 10;
+const ENOUGH: usize = 4 << 10;
 
 /// The clients that were answered since clients' bytes were handed in last.
 #[derive(Default)]
