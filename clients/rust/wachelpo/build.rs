@@ -1,4 +1,4 @@
-//! Links the service's static library, and the C library's heap by which it allocates.
+//! Links the service's static library, and the C library's heap by which it allocates; and to the program jemalloc, if it is there.
 //!
 //! - `WACHELPO_LIB`: the folder of `libservice_c.a`; by default `crates/service_c/out` of this repository, which has the proved library, or,
 //!   if that isn't there, `crates/service_c/out/unproved`, where `clients/build` puts one
@@ -26,6 +26,17 @@ fn compiled_here() -> PathBuf {
     unproved
 }
 
+/// Where Debian's libjemalloc-dev has it: without it the program allocates by the C library's malloc, and writes a sixth less.
+fn find_jemalloc() {
+    println!("cargo:rustc-check-cfg=cfg(jemalloc)");
+    let processor = env::var("CARGO_CFG_TARGET_ARCH").expect("cargo sets it");
+    let folder = PathBuf::from(format!("/usr/lib/{processor}-linux-gnu"));
+    if folder.join("libjemalloc_pic.a").is_file() {
+        println!("cargo:rustc-link-search=native={}", folder.display());
+        println!("cargo:rustc-cfg=jemalloc");
+    }
+}
+
 fn main() {
     println!("cargo:rerun-if-changed=build.rs");
     let library = folder("WACHELPO_LIB", compiled_here());
@@ -43,4 +54,5 @@ fn main() {
     println!("cargo:rustc-link-search=native={}", heap.display());
     println!("cargo:rustc-link-lib=static=service_c");
     println!("cargo:rustc-link-lib=static=libc_c");
+    find_jemalloc();
 }

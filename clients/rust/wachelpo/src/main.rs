@@ -1,6 +1,8 @@
 //! The program `wachelpo`: a replicated key-value server, and what is asked of a running cluster.
 
 mod program {
+    #[cfg(jemalloc)]
+    pub mod memory;
     pub mod options;
     pub mod telling;
 }
