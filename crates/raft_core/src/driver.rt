@@ -149,11 +149,12 @@ fn plan<M: Machine>(
     asked_at: Option<u64>,
     length: &mut LogLength,
 ) -> Result<Plan, AllocError> {
-    let ends_build = is_building(server) && length.ends_build();
-    match engine_of(server) {
-        Some(engine) => policy.tick(engine, clock, random, asked_at, ends_build),
-        None => Ok(Plan::nothing(alloc)),
-    }
+    let Some(engine) = engine_of(server) else {
+        return Ok(Plan::nothing(alloc));
+    };
+    let is_held = length.may_wait() && policy.holds_build(engine, clock);
+    let ends_build = is_building(server) && !is_held && length.ends_build();
+    policy.tick(engine, clock, random, asked_at, ends_build)
 }
 
 /// The leader id under which requests are taken.

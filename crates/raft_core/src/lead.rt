@@ -143,6 +143,25 @@ impl Lead {
         is_quorum(alloc, engine, &ids)
     }
 
+    /// Whether a target that may still answer lacks more entries than are kept behind a snapshot: what it wants next would be purged.
+    pub fn is_wanted(&self, engine: &Engine<WorldConfig>, clock: &Clock, patience: u64) -> bool {
+        let (Some(leader), Some(last)) = (&engine.leader, engine.state.last_log_id()) else {
+            return false;
+        };
+        let since = clock.before(patience.saturating_mul(SNAPSHOT_PATIENCE));
+        for row in leader.progress.iter() {
+            let matching = match row.1.matching {
+                Some(id) => id.index,
+                None => 0,
+            };
+            let lacks = last.index.saturating_sub(matching);
+            if lacks > engine.config.max_in_snapshot_log_to_keep && self.was_heard(row.0, since) {
+                return true;
+            }
+        }
+        false
+    }
+
     /// The server leads under another id than before, or no more.
     fn begin(&mut self, leader: Option<LeaderId<u64>>, clock: &Clock) {
         self.leader = leader;

@@ -45,6 +45,11 @@ impl LogLength {
         ends
     }
 
+    /// Whether the end of a build may wait, while the log grows: it isn't long, and builds may still end for as many bytes more.
+    pub fn may_wait(&self) -> bool {
+        !self.is_long() && self.end <= (MAX_FRAME / 8) as u64
+    }
+
     /// The log ends there.
     pub fn note_end(&mut self, end: u64) {
         let came = end.saturating_sub(self.end);

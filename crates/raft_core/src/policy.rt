@@ -80,6 +80,11 @@ impl Policy {
         Ok(Plan { moves, asks })
     }
 
+    /// Whether a snapshot's build isn't to end yet: a member that is there wants the entries that would be purged.
+    pub fn holds_build(&self, engine: &Engine<WorldConfig>, clock: &Clock) -> bool {
+        self.lead.is_wanted(engine, clock, self.config.patience)
+    }
+
     /// These members are wanted, while this server leads.
     pub fn want(&mut self, target: Target) {
         self.lead.want(target);
