@@ -13,6 +13,9 @@ use std::alloc::{AllocError, Global};
 /// The version of a request's form.
 const VERSION: u8 = 1;
 
+/// For how many bytes there is room from the start: a request of few keys has no more.
+const ROOM: usize = 256;
+
 /// A client's number, and its request's.
 #[tactic(auto, unfolding(crate::specs::Requests::session))]
 impl Form for Session {
@@ -67,7 +70,7 @@ fn read_request(reader: &mut Reader<'_>) -> Result<Request, DecodeError>
 pub fn encode_request(alloc: Global, given: &Request) -> Result<Items<u8>, AllocError>
     ensures { IfOk result (λ bytes. request.fits given.now × (bytes ≡ request.bytes given.now)) }
 {
-    let mut out = Vec::new(alloc);
+    let mut out = Vec::with_capacity(alloc, ROOM)?;
     write_request(&mut out, given)?;
     Ok(Items::from_vec(out))
 }
