@@ -19,7 +19,7 @@ use Rattle.raft_core.specs.proof_packed_servers.Servers.{PackedServer, server_pa
 use Rattle.raft_core.specs.raft_packed_server.Laws.{cut_file}
 use Rattle.raft_core.specs.raft_packed_server.Represents.{Represents}
 use Rattle.raft_core.proofs.raft_packed_server_proofs.Crashed.{opens_after_cuts}
-use Rattle.raft_core.specs.declared.output.Output.{Output}
+use Rattle.raft_core.specs.raft_peers.declared.output.Output.{Output}
 use Rattle.raft_core.specs.Calls.{Admits, AdmitsRead}
 use Rattle.raft_core.specs.Laws.{read_replies_of, replies_of}
 use Rattle.raft_core.specs.Views.{CoreView}

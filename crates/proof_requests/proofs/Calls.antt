@@ -25,20 +25,22 @@ use Rattle.raft_core.specs.raft_packed_wire.Messages.{packed_packet, received as
 use Rattle.raft_core.specs.raft_packed_wire.Values.{kept}
 use Rattle.raft_core.specs.raft_packed_server.Represents.{Represents, said_by}
 use Rattle.raft_core.specs.raft_packed_server.Views.{ServerView}
-use Rattle.raft_core.specs.declared.frame.Frame.TheVariants as frames
+use Rattle.raft_core.specs.raft_peers.declared.frame.Frame.TheVariants as frames
 use Rattle.raft_core.specs.declared.moves.Move.{Move}
 use Rattle.raft_core.specs.declared.moves.Move.TheVariants.{Beat, ChangeLearners, ChangeVoters, Fail, FinishSnapshot, Stand, StepDown}
-use Rattle.raft_core.specs.declared.output.Output.{Output}
+use Rattle.raft_core.specs.raft_peers.declared.output.Output.{Output}
 use Rattle.raft_core.specs.Calls.{AnswersAfter, Releases, TakesContent, Ticks, reply_to}
-use Rattle.raft_core.specs.Frames.{asked as ask_out}
+use Rattle.raft_core.specs.raft_peers.Frames.{asked as ask_out}
 use Rattle.raft_core.specs.Laws.{replies_of}
-use Rattle.raft_core.specs.Outputs.{IsBegun, LeaveAll, executed_outputs, install, lost_left, lost_replies, overdue_left, overdue_replies, reads_out, replies_out}
+use Rattle.raft_core.specs.Outputs.{executed_outputs, install, lost_left, lost_replies, overdue_left, overdue_replies, reads_out, replies_out}
+use Rattle.raft_core.specs.raft_peers.Sends.{IsBegun, LeaveAll}
 use Rattle.raft_core.specs.Outputs.{said_outputs, settled_all}
-use Rattle.raft_core.specs.Parts.{IsPartOf, Outgoing, outgoing_of}
-use Rattle.raft_core.specs.Reads.{ReadsView, failed_replies, handed_after, read_replies, refused_left, refused_replies, with_heard, with_left}
+use Rattle.raft_core.specs.raft_peers.Parts.{IsPartOf, Outgoing, outgoing_of}
+use Rattle.raft_core.specs.raft_reads.Reads.{ReadsView, failed_replies, read_replies, refused_left, refused_replies, with_heard, with_left}
+use Rattle.raft_core.specs.Outputs.{handed_after}
 use Rattle.raft_core.specs.Steps.{TakesSteps, act_of, step_taking, with_steps}
 use Rattle.raft_core.specs.Views.{CoreView}
-use Rattle.raft_core.proofs.Sending.{messages_send}
+use Rattle.raft_core.proofs.raft_peers_proofs.Sending.{messages_send}
 use Rattle.raft_core.proofs.Told.{before, behind_read, none_asked, none_granted, none_read, none_sent as none_replied, none_went, replies_more}
 use Rattle.proof_servers.specs.Servers.{Action, AllMayAct, Cluster, Crashes, Flushes, MayTake, Step, Takes, after_action, after_actions, crashed}
 use Rattle.proof_servers.specs.Servers.{new_cluster}

@@ -1,6 +1,7 @@
 -- In reading order
 pub use Rattle.proof_answers.proofs as proof_answers_proofs
 pub use Rattle.raft_core.proofs as raft_core_proofs
+pub use Rattle.raft_core.proofs.raft_peers_proofs as raft_peers_proofs
 pub use Rattle.raft_core.proofs.proof_logs_proofs as proof_logs_proofs
 pub use Rattle.raft_core.proofs.proof_packed_servers_proofs as proof_packed_servers_proofs
 pub use Rattle.raft_core.proofs.raft_packed_server_proofs as raft_packed_server_proofs

@@ -18,7 +18,7 @@ use Rattle.proof_packed.specs.Stores.{Application, Packed, packed}
 use Rattle.raft_core.specs.raft_packed_wire.declared.packet.SentPart.{SentPart}
 use Rattle.raft_core.specs.raft_packed_wire.Values.{kept}
 use Rattle.raft_core.proofs.raft_packed_wire_proofs.ValueLaws.{kept_is}
-use Rattle.raft_core.specs.Parts.{AreWhole, Comes, IsPartOf, Outgoing, assembled}
+use Rattle.raft_core.specs.raft_peers.Parts.{AreWhole, Comes, IsPartOf, Outgoing, assembled}
 use Rattle.raft_core.specs.Views.{CoreView}
 use Rattle.proof_snapshots.specs.Laws.{entries_in}
 use Rattle.proof_requests.specs.Moving.{IsComing, IsGoing, IsMoving}

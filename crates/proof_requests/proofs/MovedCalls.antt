@@ -13,11 +13,11 @@ use Rattle.raft_core.specs.raft_packed_wire.declared.packet.PackedContent.TheVar
 use Rattle.raft_core.specs.raft_packed_wire.declared.packet.PackedPacket.{PackedPacket}
 use Rattle.raft_core.specs.raft_packed_wire.Messages.{packed_packet}
 use Rattle.raft_core.specs.raft_packed_wire.Values.{kept}
-use Rattle.raft_core.specs.declared.frame.Frame.TheVariants as frames
-use Rattle.raft_core.specs.declared.output.Output.{Output}
+use Rattle.raft_core.specs.raft_peers.declared.frame.Frame.TheVariants as frames
+use Rattle.raft_core.specs.raft_peers.declared.output.Output.{Output}
 use Rattle.raft_core.specs.Calls.{Receives, Releases, TakesContent, Ticks, Writes}
-use Rattle.raft_core.specs.Outputs.{IsBegun}
-use Rattle.raft_core.specs.Parts.{IsPartOf, Outgoing}
+use Rattle.raft_core.specs.raft_peers.Sends.{IsBegun}
+use Rattle.raft_core.specs.raft_peers.Parts.{IsPartOf, Outgoing}
 use Rattle.raft_core.specs.Views.{CoreView}
 use Rattle.proof_deeds.proofs.Promised.{one_of}
 use Rattle.proof_servers.specs.Servers.{Action, AllMayAct, after_actions, new_cluster}

@@ -11,7 +11,7 @@ use Rattle.raft_node.specs.Net.{NodeView, new_node}
 use Rattle.proof_servers.specs.Servers.{Action, Cluster, Crashes, Disk, Flushes, Server, Step, Takes, WaitingStep, after_action, after_actions, crashed, flushed, flushed_first, new_cluster, stopped_node, with_server, with_step}
 use Rattle.proof_servers.specs.Recorded.{joined}
 use Rattle.proof_servers.proofs.Follow.{changes}
-use Rattle.raft_core.specs.Reads.{ReadsView, no_reads}
+use Rattle.raft_core.specs.raft_reads.Reads.{ReadsView, no_reads}
 use Rattle.raft_core.specs.Views.{CoreView}
 use Rattle.proof_requests.specs.Laws.{IsOwnAction}
 use Rattle.proof_requests.specs.OnDisk.{flushed_from, flushed_node, flushed_on, with_oldest}

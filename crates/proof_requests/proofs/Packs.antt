@@ -42,7 +42,7 @@ use Rattle.raft_core.specs.raft_packed_server.Views.{ServerView}
 use Rattle.raft_core.specs.declared.moves.Move.{Move}
 use Rattle.raft_core.specs.declared.moves.Move.TheVariants as moves
 use Rattle.raft_core.specs.Calls.{Asks, Proposes}
-use Rattle.raft_core.specs.Reads.{ReadsView, RoundView, heard_in, is_late, with_heard}
+use Rattle.raft_core.specs.raft_reads.Reads.{ReadsView, RoundView, heard_in, is_late, with_heard}
 use Rattle.raft_core.specs.Steps.{act_of, step_at, step_taking, steps_at, with_steps}
 use Rattle.proof_requests.specs.Actions.{AreSteps, after_steps, asking, proposed}
 use Rattle.proof_requests.specs.ReadLaws.{answers_waiting}

@@ -9,7 +9,7 @@ use Rattle.proof_servers.specs.Servers.{Action, Step, after_actions, new_cluster
 use Rattle.proof_answers.proofs.Linear.{see_one}
 use Rattle.proof_packed.specs.Stores.{Application}
 use Rattle.raft_core.specs.proof_packed_servers.Servers.{PackedStep}
-use Rattle.raft_core.specs.declared.output.Output.{Output}
+use Rattle.raft_core.specs.raft_peers.declared.output.Output.{Output}
 use Rattle.raft_core.specs.Calls.{Ticks, Writes}
 use Rattle.raft_core.specs.Views.{CoreView}
 use Rattle.proof_requests.specs.Actions.{AreSteps, Initializes, flushes, initialized, received, released, taking, ticked, written}

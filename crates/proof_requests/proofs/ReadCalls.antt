@@ -28,8 +28,10 @@ use Rattle.raft_node.specs.WellFormed.{IsWellFormed}
 use Rattle.raft_answers.specs.declared.answer.Answer.{Answer}
 use Rattle.raft_answers.specs.declared.answer.Answer.TheVariants.{Failed, NotLeader, Ok}
 use Rattle.raft_answers.specs.declared.answer.Reply.{Reply}
-use Rattle.raft_core.specs.declared.reads.Reader.{Reader}
-use Rattle.raft_core.specs.Reads.{ReadsView, RoundView, answer_left, answered_in, count_over, count_overdue, failed_left, failed_replies, heard_in, is_late, is_news, is_over, not_over, over_more, reaches, read_left, read_replies, refused_left, refused_replies, told, with_heard, with_left, without_first}
+use Rattle.raft_core.specs.raft_reads.declared.reads.Reader.{Reader}
+use Rattle.raft_core.specs.raft_reads.Reads.{ReadsView, RoundView, answer_left, answered_in, count_over, count_overdue, failed_left, failed_replies}
+use Rattle.raft_core.specs.raft_reads.Reads.{heard_in, is_late, is_news, is_over, not_over, over_more, reaches, read_left, read_replies, refused_left}
+use Rattle.raft_core.specs.raft_reads.Reads.{refused_replies, told, with_heard, with_left, without_first}
 use Rattle.proof_clients.specs.Reads.{IsTaking}
 use Rattle.proof_clients.proofs.Sequences.{element, first_or}
 use Rattle.proof_clients.proofs.Slots.{slot_below, there}

@@ -35,16 +35,19 @@ use Rattle.raft_core.specs.raft_packed_wire.Messages.{received as message_of}
 use Rattle.raft_core.specs.raft_packed_server.declared.serving.Serving.{Serving}
 use Rattle.raft_core.specs.raft_packed_server.Represents.{Represents, StandsFor, said_by}
 use Rattle.raft_core.specs.raft_packed_server.Views.{ServerView}
-use Rattle.raft_core.specs.declared.frame.Frame.TheVariants as frames
+use Rattle.raft_core.specs.raft_peers.declared.frame.Frame.TheVariants as frames
 use Rattle.raft_core.specs.declared.moves.Move.{Move}
 use Rattle.raft_core.specs.declared.moves.Move.TheVariants.{Beat, ChangeLearners, ChangeVoters, Fail, FinishSnapshot, Stand, StepDown}
-use Rattle.raft_core.specs.declared.output.Output.{Output}
-use Rattle.raft_core.specs.declared.reads.Reader.{Reader}
+use Rattle.raft_core.specs.raft_peers.declared.output.Output.{Output}
+use Rattle.raft_core.specs.raft_reads.declared.reads.Reader.{Reader}
 use Rattle.raft_core.specs.Calls.{AnswersAfter, Asks, AsksNode, Proposes, Receives, Releases, TakesContent, Ticks, Writes, WritesNow, engine_in}
 use Rattle.raft_core.specs.Calls.{moment_in}
 use Rattle.raft_core.specs.Laws.{read_replies_of}
-use Rattle.raft_core.specs.Reads.{ReadsView, RoundView, asked_for, count_over, count_overdue, handed_after, failed_left, failed_replies, is_free, most_rounds, not_over, read_left, read_replies, refused_left, refused_replies, round_of, under_way, with_heard, with_left}
-use Rattle.raft_core.specs.Parts.{assembled}
+use Rattle.raft_core.specs.raft_reads.Reads.{ReadsView, RoundView, asked_for, count_over, count_overdue, failed_left, failed_replies, is_free}
+use Rattle.raft_core.specs.raft_reads.Reads.{most_rounds, not_over, read_left, read_replies, refused_left, refused_replies, round_of, under_way}
+use Rattle.raft_core.specs.raft_reads.Reads.{with_heard, with_left}
+use Rattle.raft_core.specs.Outputs.{handed_after}
+use Rattle.raft_core.specs.raft_peers.Parts.{assembled}
 use Rattle.raft_core.specs.Steps.{act_of, step_at, step_taking, steps_at, with_steps}
 use Rattle.raft_core.specs.Views.{CoreView}
 use Rattle.raft_core.proofs.ReadsTold.{none_granted, none_went, told_by_message, told_by_release, ticked as told_by_tick, wrote as told_by_write}

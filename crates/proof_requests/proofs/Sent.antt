@@ -23,15 +23,16 @@ use Rattle.raft_core.specs.raft_packed_wire.Messages.{packed_packet, received}
 use Rattle.raft_core.specs.raft_packed_wire.Values.{kept}
 use Rattle.raft_core.proofs.raft_packed_wire_proofs.MessageLaws.{are_read_back}
 use Rattle.raft_core.specs.raft_packed_server.declared.batch.Written.{Written}
-use Rattle.raft_core.specs.declared.frame.PreVote.{PreVote}
-use Rattle.raft_core.specs.declared.frame.PreVoteReply.{PreVoteReply}
-use Rattle.raft_core.specs.declared.output.Output.{Output}
-use Rattle.raft_core.specs.declared.output.Output.TheVariants as outputs
+use Rattle.raft_core.specs.raft_peers.declared.frame.PreVote.{PreVote}
+use Rattle.raft_core.specs.raft_peers.declared.frame.PreVoteReply.{PreVoteReply}
+use Rattle.raft_core.specs.raft_peers.declared.output.Output.{Output}
+use Rattle.raft_core.specs.raft_peers.declared.output.Output.TheVariants as outputs
 use Rattle.raft_core.specs.Calls.{appended}
-use Rattle.raft_core.specs.declared.frame.PartReply.{PartReply}
-use Rattle.raft_core.specs.Frames.{answered as part_answer, asked, granted}
-use Rattle.raft_core.specs.Outputs.{LeaveAll, LeavesInParts, LeavesWhole, executed_outputs, install, packet_frame, packet_of, reads_out, replies_out}
-use Rattle.raft_core.specs.Parts.{AreParts, IsPartOf, Outgoing, outgoing_of, part_frame, part_packet}
+use Rattle.raft_core.specs.raft_peers.declared.frame.PartReply.{PartReply}
+use Rattle.raft_core.specs.raft_peers.Frames.{answered as part_answer, asked, granted}
+use Rattle.raft_core.specs.Outputs.{executed_outputs, install, reads_out, replies_out}
+use Rattle.raft_core.specs.raft_peers.Sends.{LeaveAll, LeavesInParts, LeavesWhole, packet_frame, packet_of}
+use Rattle.raft_core.specs.raft_peers.Parts.{AreParts, IsPartOf, Outgoing, outgoing_of, part_frame, part_packet}
 use Rattle.proof_clients.proofs.Sequences.{each_of}
 use Rattle.proof_clients.proofs.Slots.{here, there}
 use Rattle.proof_deeds.proofs.Promised.{one_of}

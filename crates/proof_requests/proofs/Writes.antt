@@ -38,7 +38,7 @@ use Rattle.raft_core.specs.proof_packed_servers.Servers.{step_packed}
 use Rattle.raft_core.specs.raft_packed_server.declared.serving.Serving.{Serving}
 use Rattle.raft_core.specs.raft_packed_server.Represents.{Represents, StandsFor}
 use Rattle.raft_core.specs.raft_packed_server.Views.{ServerView}
-use Rattle.raft_core.specs.declared.output.Output.{Output}
+use Rattle.raft_core.specs.raft_peers.declared.output.Output.{Output}
 use Rattle.raft_core.specs.Calls.{Asks, Becomes, IsNext, IsNextId, Proposes, ProposesBatch, Writes, WritesNow, appended}
 use Rattle.raft_core.specs.Laws.{replies_of}
 use Rattle.raft_core.specs.Outputs.{lost_left, lost_replies}

@@ -14,11 +14,11 @@ use Rattle.raft_core.specs.raft_packed_wire.declared.packet.PackedContent.{Packe
 use Rattle.raft_core.specs.raft_packed_wire.declared.packet.PackedContent.TheVariants as content
 use Rattle.raft_core.specs.raft_packed_wire.Messages.{received as message_of}
 use Rattle.raft_core.specs.raft_packed_server.Views.{ServerView, steps_released}
-use Rattle.raft_core.specs.declared.frame.Frame.{Frame}
-use Rattle.raft_core.specs.declared.frame.Frame.TheVariants as frames
-use Rattle.raft_core.specs.declared.output.Output.{Output}
+use Rattle.raft_core.specs.raft_peers.declared.frame.Frame.{Frame}
+use Rattle.raft_core.specs.raft_peers.declared.frame.Frame.TheVariants as frames
+use Rattle.raft_core.specs.raft_peers.declared.output.Output.{Output}
 use Rattle.raft_core.specs.Calls.{Asks, Moves, Proposes, Receives, TakesContent, TakesFrame, Ticks, Writes}
-use Rattle.raft_core.specs.Reads.{ReadsView}
+use Rattle.raft_core.specs.raft_reads.Reads.{ReadsView}
 use Rattle.raft_core.specs.Steps.{act_of, step_taking, steps_at}
 use Rattle.raft_core.specs.Views.{CoreView}
 

@@ -24,7 +24,7 @@ use Rattle.raft_core.specs.raft_packed_wire.declared.record.NamedRecord.{NamedRe
 use Rattle.raft_core.specs.raft_packed_server.declared.batch.Written.{Written}
 use Rattle.raft_core.specs.raft_packed_server.Laws.{IsCut, OpensCrashed, cut_file}
 use Rattle.raft_core.specs.declared.driver.OpenedCore.{OpenedCore}
-use Rattle.raft_core.specs.declared.output.Output.{Output}
+use Rattle.raft_core.specs.raft_peers.declared.output.Output.{Output}
 use Rattle.raft_core.specs.Calls.{Admits, AdmitsRead, Begins, BeginsNewLog, Receives, Releases, Ticks, Writes}
 use Rattle.raft_core.specs.Laws.{read_replies_of, replies_of}
 use Rattle.raft_core.specs.Views.{CoreView}

@@ -8,10 +8,10 @@ use Rattle.raft_core.specs.raft_packed_wire.declared.packet.SentMessage.{SentMes
 use Rattle.raft_core.specs.raft_packed_wire.declared.packet.SentPart.{SentPart}
 use Rattle.raft_core.specs.raft_packed_wire.Messages.{packed_packet, received}
 use Rattle.raft_core.specs.raft_packed_wire.Values.{kept}
-use Rattle.raft_core.specs.declared.output.Output.{Output}
-use Rattle.raft_core.specs.declared.output.Output.TheVariants as outputs
-use Rattle.raft_core.specs.Outputs.{packet_frame, packet_of}
-use Rattle.raft_core.specs.Parts.{IsPartOf, Outgoing, part_frame, part_packet}
+use Rattle.raft_core.specs.raft_peers.declared.output.Output.{Output}
+use Rattle.raft_core.specs.raft_peers.declared.output.Output.TheVariants as outputs
+use Rattle.raft_core.specs.raft_peers.Sends.{packet_frame, packet_of}
+use Rattle.raft_core.specs.raft_peers.Parts.{IsPartOf, Outgoing, part_frame, part_packet}
 use Rattle.proof_requests.specs.Moving.{IsGoing}
 
 -- the frames among outputs

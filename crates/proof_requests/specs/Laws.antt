@@ -12,7 +12,7 @@ use Rattle.raft_answers.specs.declared.request.Operation.{Operation}
 use Rattle.raft_answers.specs.declared.request.Token.{Token}
 use Rattle.raft_answers.specs.Requests.{no_requests}
 use Rattle.raft_core.specs.raft_packed_server.Represents.{Represents}
-use Rattle.raft_core.specs.declared.output.Output.{Output}
+use Rattle.raft_core.specs.raft_peers.declared.output.Output.{Output}
 use Rattle.raft_core.specs.Calls.{Admits, Receives, Releases, Ticks, Writes}
 use Rattle.raft_core.specs.Laws.{replies_of}
 use Rattle.raft_core.specs.Views.{CoreView}

@@ -8,7 +8,7 @@ use Rattle.raft_codec.specs.Codec.{Codec}
 use Rattle.proof_packed.specs.Nodes.{brought_by_body, packed_message}
 use Rattle.proof_packed.specs.Stores.{Application}
 use Rattle.raft_core.specs.raft_packed_wire.Values.{kept}
-use Rattle.raft_core.specs.Parts.{Outgoing, outgoing_of}
+use Rattle.raft_core.specs.raft_peers.Parts.{Outgoing, outgoing_of}
 use Rattle.raft_core.specs.Views.{CoreView}
 
 module _ {S : Type 0} (app : Application S) (c : Codec S) (bag : List Message) where

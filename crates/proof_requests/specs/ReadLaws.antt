@@ -14,11 +14,11 @@ use Rattle.raft_answers.specs.declared.answer.Answer.TheVariants.{Ok}
 use Rattle.raft_answers.specs.declared.answer.Reply.{Reply}
 use Rattle.raft_answers.specs.declared.request.Operation.TheVariants.{Read}
 use Rattle.raft_answers.specs.declared.request.Token.{Token}
-use Rattle.raft_core.specs.declared.output.Output.{Output}
-use Rattle.raft_core.specs.declared.reads.Reader.{Reader}
+use Rattle.raft_core.specs.raft_peers.declared.output.Output.{Output}
+use Rattle.raft_core.specs.raft_reads.declared.reads.Reader.{Reader}
 use Rattle.raft_core.specs.Calls.{AdmitsRead, Receives, Releases, Ticks, Writes}
 use Rattle.raft_core.specs.Laws.{read_replies_of}
-use Rattle.raft_core.specs.Reads.{ReadsView, RoundView}
+use Rattle.raft_core.specs.raft_reads.Reads.{ReadsView, RoundView}
 use Rattle.raft_core.specs.Views.{CoreView}
 use Rattle.proof_requests.specs.Actions.{AreSteps, Initializes, flushes, initialized, received, released, taking, ticked, written}
 use Rattle.proof_requests.specs.OnDisk.{flushed_node}

@@ -10,7 +10,7 @@ use Rattle.raft_answers.specs.declared.answer.Answer.{Answer}
 use Rattle.raft_answers.specs.declared.request.Operation.{Operation}
 use Rattle.raft_answers.specs.declared.request.Operation.TheVariants.{Read}
 use Rattle.raft_answers.specs.declared.request.Token.{Token}
-use Rattle.proof_requests.specs.raft_core.declared.output.Output.{Output}
+use Rattle.proof_requests.specs.raft_core.raft_peers.declared.output.Output.{Output}
 use Rattle.proof_requests.specs.raft_core.Laws.{read_replies_of, replies_of}
 use Rattle.proof_requests.specs.raft_core.Views.{CoreView}
 use Rattle.proof_clients.proofs.Sequences.{each_of, element, first_or}

@@ -33,11 +33,12 @@ use Rattle.proof_requests.proofs.proof_packed_servers_proofs.Clusters.{clusters_
 use Rattle.proof_requests.proofs.proof_packed_servers_proofs.MayAct.{runs_may}
 use Rattle.proof_requests.specs.raft_packed_server.Laws.{OpensCrashed}
 use Rattle.proof_requests.specs.raft_packed_server.Represents.{said_by}
-use Rattle.proof_requests.specs.raft_core.declared.output.Output.{Output}
-use Rattle.proof_requests.specs.raft_core.declared.output.Output.TheVariants as outputs
+use Rattle.proof_requests.specs.raft_core.raft_peers.declared.output.Output.{Output}
+use Rattle.proof_requests.specs.raft_core.raft_peers.declared.output.Output.TheVariants as outputs
 use Rattle.proof_requests.specs.raft_core.Calls.{Receives, Ticks}
 use Rattle.proof_requests.specs.raft_core.Laws.{read_replies_of, replies_of}
-use Rattle.proof_requests.specs.raft_core.Reads.{handed_after, read_replies, with_left}
+use Rattle.proof_requests.specs.raft_core.raft_reads.Reads.{read_replies, with_left}
+use Rattle.proof_requests.specs.raft_core.Outputs.{handed_after}
 use Rattle.proof_requests.specs.raft_core.Steps.{with_steps}
 use Rattle.proof_requests.specs.raft_core.Views.{CoreView}
 use Rattle.proof_requests.proofs.raft_core_proofs.ReadsTold.{only_rounds_tell_ok}

@@ -20,14 +20,14 @@ use Rattle.proof_requests.specs.raft_packed_server.Represents.{HandsOut}
 use Rattle.proof_requests.specs.raft_packed_server.Views.{ServerView}
 use Rattle.proof_requests.specs.raft_core.declared.error.FrameError.{FrameError}
 use Rattle.proof_requests.specs.raft_core.declared.error.FrameError.TheVariants as errors
-use Rattle.proof_requests.specs.raft_core.declared.frame.Frame.{Frame}
-use Rattle.proof_requests.specs.raft_core.declared.frame.Frame.TheVariants as frames
-use Rattle.proof_requests.specs.raft_core.declared.output.Output.{Output}
+use Rattle.proof_requests.specs.raft_core.raft_peers.declared.frame.Frame.{Frame}
+use Rattle.proof_requests.specs.raft_core.raft_peers.declared.frame.Frame.TheVariants as frames
+use Rattle.proof_requests.specs.raft_core.raft_peers.declared.output.Output.{Output}
 use Rattle.proof_requests.specs.raft_core.Calls.{AnswersAfter, Asks, IsRefusal, Proposes, Receives, TakesContent, TakesFrame, Ticks, Writes, WritesNow, appended}
 use Rattle.proof_requests.specs.raft_core.Calls.{reply_to}
 use Rattle.proof_requests.specs.raft_core.Laws.{IsNotOk, replies_of}
 use Rattle.proof_requests.specs.raft_core.Outputs.{lost_replies, overdue_replies, reads_out, replies_out}
-use Rattle.proof_requests.specs.raft_core.Reads.{ReadsView, failed_replies, read_replies, refused_left, refused_replies, with_heard}
+use Rattle.proof_requests.specs.raft_core.raft_reads.Reads.{ReadsView, failed_replies, read_replies, refused_left, refused_replies, with_heard}
 use Rattle.proof_requests.specs.raft_core.Steps.{IsWithAllTaken, with_steps}
 use Rattle.proof_requests.specs.raft_core.Views.{CoreView}
 use Rattle.proof_requests.proofs.raft_core_proofs.Told.{before, before_read, behind_read, none_appended, none_asked, none_read}

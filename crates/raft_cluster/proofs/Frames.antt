@@ -7,10 +7,10 @@ use Rattle.std.proofs.lemmas.Grind.{flat_map-append}
 use Rattle.raft_codec.specs.Codec.{Codec}
 use Rattle.proof_packed.specs.Nodes.{PackedMessage}
 use Rattle.proof_packed.specs.Stores.{Application}
-use Rattle.proof_requests.specs.raft_core.declared.output.Output.{Output}
-use Rattle.proof_requests.specs.raft_core.declared.output.Output.TheVariants as outputs
-use Rattle.proof_requests.specs.raft_core.Outputs.{LeaveAll, LeavesInParts, LeavesWhole}
-use Rattle.proof_requests.specs.raft_core.Parts.{outgoing_of}
+use Rattle.proof_requests.specs.raft_core.raft_peers.declared.output.Output.{Output}
+use Rattle.proof_requests.specs.raft_core.raft_peers.declared.output.Output.TheVariants as outputs
+use Rattle.proof_requests.specs.raft_core.raft_peers.Sends.{LeaveAll, LeavesInParts, LeavesWhole}
+use Rattle.proof_requests.specs.raft_core.raft_peers.Parts.{outgoing_of}
 use Rattle.raft_cluster.specs.Clusters.{AreAllBut, AreOf, Carries}
 use Rattle.proof_requests.specs.Frames.{frames_of as frames_in}
 use Rattle.proof_requests.proofs.Sent.{frames_more}

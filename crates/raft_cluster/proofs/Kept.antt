@@ -17,18 +17,20 @@ use Rattle.proof_packed.specs.Stores.{Application, Packed}
 use Rattle.raft_packed_wire.specs.declared.packet.PackedContent.{PackedContent}
 use Rattle.raft_packed_wire.specs.declared.packet.PackedContent.TheVariants as content
 use Rattle.raft_packed_wire.specs.Messages.{received}
-use Rattle.proof_requests.specs.raft_core.declared.output.Output.{Output}
-use Rattle.proof_requests.specs.raft_core.declared.output.Output.TheVariants as outputs
-use Rattle.proof_requests.specs.raft_core.declared.frame.Frame.TheVariants as frames
-use Rattle.proof_requests.specs.raft_core.declared.reads.Reader.{Reader}
+use Rattle.proof_requests.specs.raft_core.raft_peers.declared.output.Output.{Output}
+use Rattle.proof_requests.specs.raft_core.raft_peers.declared.output.Output.TheVariants as outputs
+use Rattle.proof_requests.specs.raft_core.raft_peers.declared.frame.Frame.TheVariants as frames
+use Rattle.proof_requests.specs.raft_core.raft_reads.declared.reads.Reader.{Reader}
 use Rattle.proof_requests.specs.raft_core.Calls.{Receives, Releases, TakesContent, TakesMessage}
 use Rattle.proof_requests.specs.raft_core.Laws.{IsNotOk, read_replies_of, replies_of}
-use Rattle.proof_requests.specs.raft_core.Outputs.{LeaveAll, executed_outputs, install, reads_out, replies_out, said_outputs}
-use Rattle.proof_requests.specs.raft_core.Parts.{assembled}
-use Rattle.proof_requests.specs.raft_core.Reads.{ReadsView, count_over, executed_after, handed_after, read_replies, refused_left, refused_replies, told, with_heard, with_left}
+use Rattle.proof_requests.specs.raft_core.Outputs.{executed_outputs, install, reads_out, replies_out, said_outputs}
+use Rattle.proof_requests.specs.raft_core.raft_peers.Sends.{LeaveAll}
+use Rattle.proof_requests.specs.raft_core.raft_peers.Parts.{assembled}
+use Rattle.proof_requests.specs.raft_core.raft_reads.Reads.{ReadsView, count_over, read_replies, refused_left, refused_replies, told, with_heard, with_left}
+use Rattle.proof_requests.specs.raft_core.Outputs.{executed_after, handed_after}
 use Rattle.proof_requests.specs.raft_core.Views.{CoreView}
 use Rattle.proof_requests.proofs.raft_core_proofs.ReadsTold.{none_granted, none_went, told_by_message, told_by_release}
-use Rattle.proof_requests.proofs.raft_core_proofs.Sending.{messages_send}
+use Rattle.proof_requests.proofs.raft_peers_proofs.Sending.{messages_send}
 use Rattle.proof_requests.proofs.raft_core_proofs.Told.{none_read, none_sent, replies_are, replies_more}
 use Rattle.proof_clients.proofs.Sequences.{first_or}
 use Rattle.proof_clients.proofs.Slots.{here, there}

@@ -13,17 +13,18 @@ use Rattle.raft_codec.specs.Codec.{Codec}
 use Rattle.proof_packed.specs.Nodes.{PackedInstalled, PackedRecords}
 use Rattle.proof_packed.specs.Stores.{Application}
 use Rattle.proof_requests.specs.raft_packed_server.declared.batch.Written.{Written}
-use Rattle.proof_requests.specs.raft_core.declared.frame.PartReply.{PartReply}
-use Rattle.proof_requests.specs.raft_core.declared.frame.PreVote.{PreVote}
-use Rattle.proof_requests.specs.raft_core.declared.frame.PreVoteReply.{PreVoteReply}
-use Rattle.proof_requests.specs.raft_core.declared.output.Output.{Output}
-use Rattle.proof_requests.specs.raft_core.declared.output.Output.TheVariants as outputs
+use Rattle.proof_requests.specs.raft_core.raft_peers.declared.frame.PartReply.{PartReply}
+use Rattle.proof_requests.specs.raft_core.raft_peers.declared.frame.PreVote.{PreVote}
+use Rattle.proof_requests.specs.raft_core.raft_peers.declared.frame.PreVoteReply.{PreVoteReply}
+use Rattle.proof_requests.specs.raft_core.raft_peers.declared.output.Output.{Output}
+use Rattle.proof_requests.specs.raft_core.raft_peers.declared.output.Output.TheVariants as outputs
 use Rattle.proof_requests.specs.raft_core.Calls.{append, appended}
-use Rattle.proof_requests.specs.raft_core.Frames.{answered, asked, granted}
+use Rattle.proof_requests.specs.raft_core.raft_peers.Frames.{answered, asked, granted}
 use Rattle.proof_requests.specs.raft_core.Laws.{IsNotOk}
-use Rattle.proof_requests.specs.raft_core.Outputs.{LeaveAll, executed_outputs, install, reads_out, replies_out, said_outputs}
-use Rattle.proof_requests.specs.raft_core.Parts.{AreParts, Outgoing}
-use Rattle.proof_requests.proofs.raft_core_proofs.Sending.{AreSends, messages_send}
+use Rattle.proof_requests.specs.raft_core.Outputs.{executed_outputs, install, reads_out, replies_out, said_outputs}
+use Rattle.proof_requests.specs.raft_core.raft_peers.Sends.{LeaveAll}
+use Rattle.proof_requests.specs.raft_core.raft_peers.Parts.{AreParts, Outgoing}
+use Rattle.proof_requests.proofs.raft_peers_proofs.Sending.{AreSends, messages_send}
 use Rattle.proof_requests.specs.Frames.{frames_of as frames_in}
 use Rattle.proof_requests.proofs.Sent.{frames_more, no_frames}
 use Rattle.raft_cluster.specs.Outputs.{AreQuiet, IsQuiet, entry_in, executed_in, handed_in, installed_in, other_in, others_in, snapshot_in}

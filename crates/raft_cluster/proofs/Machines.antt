@@ -34,7 +34,7 @@ use Rattle.proof_requests.proofs.raft_packed_server_proofs.Logged.{AreFirst, fir
 use Rattle.proof_requests.proofs.raft_packed_server_proofs.Renewed.{new_logs_go_on}
 use Rattle.proof_requests.proofs.raft_packed_server_proofs.Waiting.{IsBeside, at_end_beside, handed_out, released_records, rest_beside, takes}
 use Rattle.proof_requests.specs.raft_core.declared.driver.OpenedCore.{OpenedCore}
-use Rattle.proof_requests.specs.raft_core.declared.output.Output.{Output}
+use Rattle.proof_requests.specs.raft_core.raft_peers.declared.output.Output.{Output}
 use Rattle.proof_requests.specs.raft_core.Views.{CoreView}
 use Rattle.raft_cluster.specs.declared.machine.Handed.{Handed}
 use Rattle.raft_cluster.specs.declared.machine.Machine.{Machine}

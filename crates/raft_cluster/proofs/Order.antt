@@ -15,20 +15,21 @@ use Rattle.raft_packed_wire.specs.declared.packet.PackedContent.TheVariants as c
 use Rattle.raft_packed_wire.specs.Messages.{received}
 use Rattle.proof_requests.specs.raft_packed_server.declared.batch.Written.{Written}
 use Rattle.raft_store.specs.declared.entry.Entry.{Entry}
-use Rattle.proof_requests.specs.raft_core.declared.frame.Frame.{Frame}
-use Rattle.proof_requests.specs.raft_core.declared.frame.Frame.TheVariants as frames
-use Rattle.proof_requests.specs.raft_core.declared.frame.PreVote.{PreVote}
-use Rattle.proof_requests.specs.raft_core.declared.frame.PreVoteReply.{PreVoteReply}
-use Rattle.proof_requests.specs.raft_core.declared.output.Output.{Output}
-use Rattle.proof_requests.specs.raft_core.declared.output.Output.TheVariants as outputs
+use Rattle.proof_requests.specs.raft_core.raft_peers.declared.frame.Frame.{Frame}
+use Rattle.proof_requests.specs.raft_core.raft_peers.declared.frame.Frame.TheVariants as frames
+use Rattle.proof_requests.specs.raft_core.raft_peers.declared.frame.PreVote.{PreVote}
+use Rattle.proof_requests.specs.raft_core.raft_peers.declared.frame.PreVoteReply.{PreVoteReply}
+use Rattle.proof_requests.specs.raft_core.raft_peers.declared.output.Output.{Output}
+use Rattle.proof_requests.specs.raft_core.raft_peers.declared.output.Output.TheVariants as outputs
 use Rattle.proof_requests.specs.raft_core.Calls.{Receives, Releases, TakesContent, TakesFrame, TakesMessage, Ticks, Writes, appended}
-use Rattle.proof_requests.specs.raft_core.Frames.{asked, granted}
+use Rattle.proof_requests.specs.raft_core.raft_peers.Frames.{asked, granted}
 use Rattle.proof_requests.specs.raft_core.Laws.{read_replies_of, replies_of}
 use Rattle.proof_requests.specs.raft_core.Outputs.{executed_outputs, install, lost_replies, overdue_replies, reads_out, replies_out, said_outputs}
-use Rattle.proof_requests.specs.raft_core.Parts.{assembled}
-use Rattle.proof_requests.specs.raft_core.Reads.{failed_replies, handed_after, read_replies, refused_left, refused_replies, with_heard, with_left}
+use Rattle.proof_requests.specs.raft_core.raft_peers.Parts.{assembled}
+use Rattle.proof_requests.specs.raft_core.raft_reads.Reads.{failed_replies, read_replies, refused_left, refused_replies, with_heard, with_left}
+use Rattle.proof_requests.specs.raft_core.Outputs.{handed_after}
 use Rattle.proof_requests.specs.raft_core.Views.{CoreView}
-use Rattle.proof_requests.proofs.raft_core_proofs.Sending.{AreSends, messages_send, parts_send}
+use Rattle.proof_requests.proofs.raft_peers_proofs.Sending.{AreSends, messages_send, parts_send}
 use Rattle.proof_requests.specs.Actions.{Initializes}
 use Rattle.raft_cluster.specs.Outputs.{answers_in}
 

@@ -15,7 +15,7 @@ use Rattle.proof_requests.specs.raft_packed_server.Laws.{OpensCrashed}
 use Rattle.proof_requests.specs.raft_packed_server.Represents.{HandsOut, said_by}
 use Rattle.proof_requests.specs.raft_packed_server.Views.{IsWithTaken}
 use Rattle.proof_requests.specs.raft_core.declared.driver.OpenedCore.{OpenedCore}
-use Rattle.proof_requests.specs.raft_core.declared.output.Output.{Output}
+use Rattle.proof_requests.specs.raft_core.raft_peers.declared.output.Output.{Output}
 use Rattle.proof_requests.specs.raft_core.Steps.{IsWithAllTaken, with_steps}
 use Rattle.proof_requests.specs.raft_core.Views.{CoreView}
 use Rattle.proof_requests.proofs.Queues.{one_own}

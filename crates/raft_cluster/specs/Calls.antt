@@ -9,7 +9,7 @@ use Rattle.proof_requests.specs.raft_packed_server.declared.batch.Written.{Writt
 use Rattle.proof_requests.specs.raft_core.declared.driver.OpenedCore.{OpenedCore}
 use Rattle.proof_requests.specs.raft_core.declared.error.FrameError.{FrameError}
 use Rattle.proof_requests.specs.raft_core.declared.error.FrameError.TheVariants.{Core}
-use Rattle.proof_requests.specs.raft_core.declared.output.Output.{Output}
+use Rattle.proof_requests.specs.raft_core.raft_peers.declared.output.Output.{Output}
 use Rattle.proof_requests.specs.raft_core.Calls.{Admits, AdmitsRead, Begins, BeginsNewLog, Releases, Writes}
 use Rattle.proof_requests.specs.raft_core.Views.{CoreView}
 use Rattle.raft_cluster.specs.declared.comes.Comes.{Comes}

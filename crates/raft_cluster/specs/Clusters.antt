@@ -16,8 +16,8 @@ use Rattle.proof_servers.specs.Servers.{Cluster as ModelCluster}
 use Rattle.proof_packed.specs.Nodes.{PackedMessage, PackedRecords}
 use Rattle.proof_packed.specs.Stores.{Application, Packed}
 use Rattle.proof_requests.specs.proof_packed_servers.Servers.{PackedCluster, cluster_packed}
-use Rattle.proof_requests.specs.raft_core.declared.output.Output.{Output}
-use Rattle.proof_requests.specs.raft_core.Outputs.{BringsSnapshot}
+use Rattle.proof_requests.specs.raft_core.raft_peers.declared.output.Output.{Output}
+use Rattle.proof_requests.specs.raft_core.raft_peers.Sends.{BringsSnapshot}
 use Rattle.raft_cluster.specs.declared.cluster.Cluster.{Cluster}
 use Rattle.raft_cluster.specs.declared.machine.Machine.{Machine}
 use Rattle.raft_cluster.specs.declared.network.Network.{Network}

@@ -10,11 +10,11 @@ use Rattle.raft_packed_wire.specs.declared.packet.SentMessage.{SentMessage}
 use Rattle.raft_packed_wire.specs.declared.packet.SentPart.{SentPart}
 use Rattle.raft_packed_wire.specs.Messages.{packed_packet, received}
 use Rattle.raft_packed_wire.specs.Values.{kept}
-use Rattle.proof_requests.specs.raft_core.declared.output.Output.{Output}
-use Rattle.proof_requests.specs.raft_core.declared.output.Output.TheVariants as outputs
+use Rattle.proof_requests.specs.raft_core.raft_peers.declared.output.Output.{Output}
+use Rattle.proof_requests.specs.raft_core.raft_peers.declared.output.Output.TheVariants as outputs
 use Rattle.proof_requests.specs.raft_core.Laws.{IsNotOk}
-use Rattle.proof_requests.specs.raft_core.Outputs.{packet_frame, packet_of}
-use Rattle.proof_requests.specs.raft_core.Parts.{part_frame, part_packet}
+use Rattle.proof_requests.specs.raft_core.raft_peers.Sends.{packet_frame, packet_of}
+use Rattle.proof_requests.specs.raft_core.raft_peers.Parts.{part_frame, part_packet}
 use Rattle.raft_cluster.specs.declared.machine.Handed.{Handed}
 
 module _ {S : Type 0} where

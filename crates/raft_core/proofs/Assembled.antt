@@ -13,22 +13,24 @@ use Rattle.raft_chunks.specs.Assembly.{cursor_of, taken}
 use Rattle.raft_chunks.specs.Chunks.{Piece}
 use Rattle.raft_chunks.specs.declared.cursor.Cursor.{Cursor}
 use Rattle.raft_chunks.specs.Form.{opened, piece as chunk}
-use Rattle.raft_packed_server.specs.proof_packed.Nodes.{PackedMessage, PackedRecords}
-use Rattle.raft_packed_server.specs.proof_packed.Stores.{Application, Packed}
-use Rattle.raft_packed_server.specs.proof_packed_servers.Servers.{PackedServer}
-use Rattle.raft_packed_server.specs.raft_packed_wire.declared.packet.SentPart.{SentPart}
-use Rattle.raft_packed_server.specs.declared.batch.Written.{Written}
-use Rattle.raft_packed_server.specs.declared.error.ServerError.{ServerError}
-use Rattle.raft_packed_server.specs.Represents.{Flushes, HandsOut, Represents}
-use Rattle.raft_packed_server.specs.Views.{ServerView, released}
-use Rattle.raft_core.specs.declared.output.Output.{Output}
-use Rattle.raft_core.specs.declared.frame.PartReply.{PartReply}
+use Rattle.raft_peers.specs.proof_packed.Nodes.{PackedMessage, PackedRecords}
+use Rattle.raft_peers.specs.proof_packed.Stores.{Application, Packed}
+use Rattle.raft_peers.specs.proof_packed_servers.Servers.{PackedServer}
+use Rattle.raft_peers.specs.raft_packed_wire.declared.packet.SentPart.{SentPart}
+use Rattle.raft_peers.specs.raft_packed_server.declared.batch.Written.{Written}
+use Rattle.raft_peers.specs.raft_packed_server.declared.error.ServerError.{ServerError}
+use Rattle.raft_peers.specs.raft_packed_server.Represents.{Flushes, HandsOut, Represents}
+use Rattle.raft_peers.specs.raft_packed_server.Views.{ServerView, released}
+use Rattle.raft_peers.specs.declared.output.Output.{Output}
+use Rattle.raft_peers.specs.declared.frame.PartReply.{PartReply}
 use Rattle.raft_core.specs.Calls.{AnswersAfter, AnswersOverdue, Asks, CompletesSnapshot, GoesOn, KeepsPart, Loses, Proposes, RefusesReads, Releases}
 use Rattle.raft_core.specs.Calls.{TakesMessage, WritesNow, appended}
-use Rattle.raft_core.specs.Frames.{answered}
-use Rattle.raft_core.specs.Outputs.{Sends, reads_out, replies_out, said_outputs, settled_all}
-use Rattle.raft_core.specs.Parts.{AreParts, IsBefore, IsWhole, Outgoing}
-use Rattle.raft_core.specs.Reads.{ReadsView, failed_left, failed_replies, handed_after, read_left, read_replies, with_heard, with_left}
+use Rattle.raft_peers.specs.Frames.{answered}
+use Rattle.raft_core.specs.Outputs.{reads_out, replies_out, said_outputs, settled_all}
+use Rattle.raft_peers.specs.Sends.{Sends}
+use Rattle.raft_peers.specs.Parts.{AreParts, IsBefore, IsWhole, Outgoing}
+use Rattle.raft_reads.specs.Reads.{ReadsView, failed_left, failed_replies, read_left, read_replies, with_heard, with_left}
+use Rattle.raft_core.specs.Outputs.{handed_after}
 use Rattle.raft_core.specs.Steps.{TakesSteps, step_taking}
 use Rattle.raft_core.specs.Views.{CoreView}
 

@@ -5,13 +5,13 @@ use Rattle.std.specs.Option.{option_map}
 use Rattle.raft_frames.specs.declared.header.LogId.{LogId}
 use Rattle.raft_frames.specs.declared.tail.Tail.{Tail}
 use Rattle.raft_codec.specs.Codec.{Codec}
-use Rattle.raft_packed_server.specs.proof_packed.Nodes.{PackedNode}
-use Rattle.raft_packed_server.specs.proof_packed.Stores.{Packed}
-use Rattle.raft_packed_server.specs.declared.batch.Written.{Written}
-use Rattle.raft_packed_server.specs.declared.serving.Serving.{Serving}
-use Rattle.raft_packed_server.specs.Checkpoints.{BeginsLog}
-use Rattle.raft_packed_server.specs.Recovery.{GoesOn}
-use Rattle.raft_packed_server.specs.Views.{ServerView}
+use Rattle.raft_peers.specs.proof_packed.Nodes.{PackedNode}
+use Rattle.raft_peers.specs.proof_packed.Stores.{Packed}
+use Rattle.raft_peers.specs.raft_packed_server.declared.batch.Written.{Written}
+use Rattle.raft_peers.specs.raft_packed_server.declared.serving.Serving.{Serving}
+use Rattle.raft_peers.specs.raft_packed_server.Checkpoints.{BeginsLog}
+use Rattle.raft_peers.specs.raft_packed_server.Recovery.{GoesOn}
+use Rattle.raft_peers.specs.raft_packed_server.Views.{ServerView}
 use Rattle.raft_core.specs.Calls.{MayBeginLog}
 use Rattle.raft_core.specs.Views.{CoreView}
 

@@ -8,32 +8,33 @@ use Rattle.raft_answers.specs.declared.answer.Reply.{Reply}
 use Rattle.raft_answers.specs.declared.request.Proposal.{Proposal}
 use Rattle.raft_answers.specs.declared.request.Token.{Token}
 use Rattle.raft_answers.specs.Answers.{settled_left, settled_replies}
-use Rattle.raft_packed_server.specs.raft_packed_wire.declared.packet.PackedContent.{PackedContent}
-use Rattle.raft_packed_server.specs.raft_packed_wire.declared.packet.PackedContent.TheVariants as content
-use Rattle.raft_packed_server.specs.raft_packed_wire.Messages.{received}
+use Rattle.raft_peers.specs.raft_packed_wire.declared.packet.PackedContent.{PackedContent}
+use Rattle.raft_peers.specs.raft_packed_wire.declared.packet.PackedContent.TheVariants as content
+use Rattle.raft_peers.specs.raft_packed_wire.Messages.{received}
 use Rattle.raft_codec.specs.Codec.{Codec}
-use Rattle.raft_packed_server.specs.proof_packed.Nodes.{PackedInstalled, PackedMessage}
-use Rattle.raft_packed_server.specs.proof_packed.Stores.{Application, Packed}
-use Rattle.raft_packed_server.specs.declared.batch.Written.{Written}
-use Rattle.raft_packed_server.specs.Views.{ServerView}
+use Rattle.raft_peers.specs.proof_packed.Nodes.{PackedInstalled, PackedMessage}
+use Rattle.raft_peers.specs.proof_packed.Stores.{Application, Packed}
+use Rattle.raft_peers.specs.raft_packed_server.declared.batch.Written.{Written}
+use Rattle.raft_peers.specs.raft_packed_server.Views.{ServerView}
 use Rattle.raft_store.specs.declared.entry.Entry.{Entry}
-use Rattle.raft_core.specs.declared.frame.Frame.{Frame}
-use Rattle.raft_core.specs.declared.frame.Frame.TheVariants as frames
-use Rattle.raft_core.specs.declared.frame.PreVote.{PreVote}
-use Rattle.raft_core.specs.declared.frame.PreVoteReply.{PreVoteReply}
-use Rattle.raft_core.specs.declared.output.Output.{Output}
-use Rattle.raft_core.specs.declared.output.Output.TheVariants as outputs
-use Rattle.raft_core.specs.declared.reads.Reader.{Reader}
+use Rattle.raft_peers.specs.declared.frame.Frame.{Frame}
+use Rattle.raft_peers.specs.declared.frame.Frame.TheVariants as frames
+use Rattle.raft_peers.specs.declared.frame.PreVote.{PreVote}
+use Rattle.raft_peers.specs.declared.frame.PreVoteReply.{PreVoteReply}
+use Rattle.raft_peers.specs.declared.output.Output.{Output}
+use Rattle.raft_peers.specs.declared.output.Output.TheVariants as outputs
+use Rattle.raft_reads.specs.declared.reads.Reader.{Reader}
 use Rattle.raft_core.specs.Views.{CoreView}
 use Rattle.raft_core.specs.Calls.{AdmitsRead, Asks, Releases, TakesContent, TakesMessage, TakesFrame, Ticks, Writes, WritesNow, appended}
-use Rattle.raft_core.specs.Frames.{asked, granted}
+use Rattle.raft_peers.specs.Frames.{asked, granted}
 use Rattle.raft_core.specs.Laws.{AnswersReads, OnlyRoundsTellOk, ReadsAreAnsweredOnce, read_replies_of}
 use Rattle.raft_core.specs.Outputs.{executed_outputs, install, lost_replies, overdue_replies, reads_out, replies_out, said_outputs}
-use Rattle.raft_core.specs.Parts.{AreParts, Outgoing, assembled}
-use Rattle.raft_core.specs.Reads.{ReadsView, count_overdue, handed_after, failed_left, failed_replies, read_left, read_replies, read_tokens}
-use Rattle.raft_core.specs.Reads.{refused_left, refused_replies, told, with_heard, with_left}
-use Rattle.raft_core.proofs.Reading.{ReadsFirst, both_reads, fails_first, left_keeps, reads_first, refuses_first}
-use Rattle.raft_core.proofs.Sending.{AreSends, messages_send, parts_send}
+use Rattle.raft_peers.specs.Parts.{AreParts, Outgoing, assembled}
+use Rattle.raft_reads.specs.Reads.{ReadsView, count_overdue, failed_left, failed_replies, read_left, read_replies, read_tokens}
+use Rattle.raft_core.specs.Outputs.{handed_after}
+use Rattle.raft_reads.specs.Reads.{refused_left, refused_replies, told, with_heard, with_left}
+use Rattle.raft_reads.proofs.Reading.{ReadsFirst, both_reads, fails_first, left_keeps, reads_first, refuses_first}
+use Rattle.raft_peers.proofs.Sending.{AreSends, messages_send, parts_send}
 use Rattle.raft_core.proofs.Unsaid.{NoOk, no_more}
 
 -- ---- the answers to reads among outputs

@@ -2,11 +2,11 @@
 use Rattle.std.proofs.Common.{◌≡◌, ◌∙◌, List, [], ◌∷◌, ◌++◌, Option, refl, sym, subst}
 use Rattle.raft_schedule.specs.declared.event.Outcome.{Outcome}
 use Rattle.raft_node.specs.declared.given.Given.{Given}
-use Rattle.raft_packed_server.specs.proof_packed.Stores.{Application}
-use Rattle.raft_packed_server.specs.proof_packed_servers.Servers.{PackedServer, PackedStep, packed_with_step}
-use Rattle.raft_packed_server.specs.Represents.{Represents}
-use Rattle.raft_packed_server.specs.declared.serving.Serving.{Serving}
-use Rattle.raft_packed_server.specs.Views.{IsWithTaken, ServerView}
+use Rattle.raft_peers.specs.proof_packed.Stores.{Application}
+use Rattle.raft_peers.specs.proof_packed_servers.Servers.{PackedServer, PackedStep, packed_with_step}
+use Rattle.raft_peers.specs.raft_packed_server.Represents.{Represents}
+use Rattle.raft_peers.specs.raft_packed_server.declared.serving.Serving.{Serving}
+use Rattle.raft_peers.specs.raft_packed_server.Views.{IsWithTaken, ServerView}
 use Rattle.raft_core.specs.Steps.{IsWithAllTaken, TakesStep, TakesSteps, with_steps}
 
 module _ {S : Type 0} (app : Application S) where

@@ -11,34 +11,35 @@ use Rattle.raft_answers.specs.Answers.{ended, expired_replies, failed, refused, 
 use Rattle.raft_answers.specs.Laws.{AnswersFirst}
 use Rattle.raft_answers.specs.Requests.{Batched, IsBatched, Open, no_requests, tokens_of}
 use Rattle.raft_answers.proofs.Answered.{both, ends, expires, fails, of_proposal, of_request, proposes, refuses, settles}
-use Rattle.raft_packed_server.specs.raft_packed_wire.declared.packet.PackedContent.{PackedContent}
-use Rattle.raft_packed_server.specs.raft_packed_wire.declared.packet.PackedContent.TheVariants as content
-use Rattle.raft_packed_server.specs.raft_packed_wire.Messages.{received}
+use Rattle.raft_peers.specs.raft_packed_wire.declared.packet.PackedContent.{PackedContent}
+use Rattle.raft_peers.specs.raft_packed_wire.declared.packet.PackedContent.TheVariants as content
+use Rattle.raft_peers.specs.raft_packed_wire.Messages.{received}
 use Rattle.raft_codec.specs.Codec.{Codec}
-use Rattle.raft_packed_server.specs.proof_packed.Nodes.{PackedInstalled, PackedMessage, PackedRecords}
-use Rattle.raft_packed_server.specs.proof_packed.Stores.{Application, Packed}
+use Rattle.raft_peers.specs.proof_packed.Nodes.{PackedInstalled, PackedMessage, PackedRecords}
+use Rattle.raft_peers.specs.proof_packed.Stores.{Application, Packed}
 use Rattle.raft_schedule.specs.declared.event.Outcome.{Outcome}
 use Rattle.raft_schedule.specs.declared.event.Outcome.TheVariants.{Done, Refused, Skipped, Stopped}
-use Rattle.raft_packed_server.specs.declared.batch.Written.{Written}
-use Rattle.raft_packed_server.specs.Views.{ServerView}
+use Rattle.raft_peers.specs.raft_packed_server.declared.batch.Written.{Written}
+use Rattle.raft_peers.specs.raft_packed_server.Views.{ServerView}
 use Rattle.raft_state.specs.declared.ids.LogId.{LogId}
 use Rattle.raft_store.specs.declared.entry.Entry.{Entry}
-use Rattle.raft_core.specs.declared.frame.Frame.{Frame}
-use Rattle.raft_core.specs.declared.frame.Frame.TheVariants as frames
-use Rattle.raft_core.specs.declared.frame.PreVote.{PreVote}
-use Rattle.raft_core.specs.declared.frame.PreVoteReply.{PreVoteReply}
-use Rattle.raft_core.specs.declared.output.Output.{Output}
-use Rattle.raft_core.specs.declared.output.Output.TheVariants as outputs
+use Rattle.raft_peers.specs.declared.frame.Frame.{Frame}
+use Rattle.raft_peers.specs.declared.frame.Frame.TheVariants as frames
+use Rattle.raft_peers.specs.declared.frame.PreVote.{PreVote}
+use Rattle.raft_peers.specs.declared.frame.PreVoteReply.{PreVoteReply}
+use Rattle.raft_peers.specs.declared.output.Output.{Output}
+use Rattle.raft_peers.specs.declared.output.Output.TheVariants as outputs
 use Rattle.raft_core.specs.Views.{CoreView}
 use Rattle.raft_core.specs.Calls.{Admits, Becomes, Proposes, RefusesAll, Releases, TakesContent, TakesFrame, TakesMessage, Ticks, Writes, WritesNow}
 use Rattle.raft_core.specs.Calls.{appended}
-use Rattle.raft_core.specs.Frames.{asked, granted}
+use Rattle.raft_peers.specs.Frames.{asked, granted}
 use Rattle.raft_core.specs.Laws.{AnswersOnce, ClientsAreAnsweredOnce, replies_of}
 use Rattle.raft_core.specs.Outputs.{executed_outputs, install, lost_left, lost_replies, overdue_left, overdue_replies, reads_out, replies_out}
 use Rattle.raft_core.specs.Outputs.{said_outputs, settled_all}
-use Rattle.raft_core.specs.Parts.{AreParts, Outgoing, assembled}
-use Rattle.raft_core.proofs.Sending.{AreSends, messages_send, parts_send}
-use Rattle.raft_core.specs.Reads.{handed_after, read_replies, refused_left, refused_replies, with_heard, with_left}
+use Rattle.raft_peers.specs.Parts.{AreParts, Outgoing, assembled}
+use Rattle.raft_peers.proofs.Sending.{AreSends, messages_send, parts_send}
+use Rattle.raft_reads.specs.Reads.{read_replies, refused_left, refused_replies, with_heard, with_left}
+use Rattle.raft_core.specs.Outputs.{handed_after}
 
 -- ---- the replies among outputs
 

@@ -12,23 +12,23 @@ use Rattle.raft_answers.specs.Requests.{Open}
 use Rattle.raft_schedule.specs.declared.event.Outcome.{Outcome}
 use Rattle.raft_schedule.specs.declared.event.Outcome.TheVariants.{Done, Refused, Skipped, Stopped}
 use Rattle.raft_codec.specs.Codec.{Codec}
-use Rattle.raft_packed_server.specs.proof_packed.Nodes.{PackedMessage}
-use Rattle.raft_packed_server.specs.proof_packed.Stores.{Application, Packed}
-use Rattle.raft_packed_server.specs.raft_packed_wire.declared.packet.PackedContent.{PackedContent}
-use Rattle.raft_packed_server.specs.raft_packed_wire.declared.packet.PackedContent.TheVariants as content
-use Rattle.raft_packed_server.specs.raft_packed_wire.Messages.{received}
-use Rattle.raft_packed_server.specs.Views.{ServerView}
+use Rattle.raft_peers.specs.proof_packed.Nodes.{PackedMessage}
+use Rattle.raft_peers.specs.proof_packed.Stores.{Application, Packed}
+use Rattle.raft_peers.specs.raft_packed_wire.declared.packet.PackedContent.{PackedContent}
+use Rattle.raft_peers.specs.raft_packed_wire.declared.packet.PackedContent.TheVariants as content
+use Rattle.raft_peers.specs.raft_packed_wire.Messages.{received}
+use Rattle.raft_peers.specs.raft_packed_server.Views.{ServerView}
 use Rattle.raft_state.specs.declared.ids.LogId.{LogId}
-use Rattle.raft_core.specs.declared.frame.Frame.{Frame}
-use Rattle.raft_core.specs.declared.frame.Frame.TheVariants as frames
-use Rattle.raft_core.specs.declared.output.Output.{Output}
+use Rattle.raft_peers.specs.declared.frame.Frame.{Frame}
+use Rattle.raft_peers.specs.declared.frame.Frame.TheVariants as frames
+use Rattle.raft_peers.specs.declared.output.Output.{Output}
 use Rattle.raft_core.specs.Views.{CoreView}
 use Rattle.raft_core.specs.Calls.{Becomes, Proposes, TakesContent, TakesFrame, TakesMessage, Ticks, Writes, WritesNow, appended}
-use Rattle.raft_core.specs.Frames.{asked}
+use Rattle.raft_peers.specs.Frames.{asked}
 use Rattle.raft_core.specs.Laws.{IsNotOk, NoneIsOk, OnlyReleasesTellOk, replies_of}
 use Rattle.raft_core.specs.Outputs.{lost_left, lost_replies, overdue_replies, reads_out}
-use Rattle.raft_core.specs.Parts.{assembled}
-use Rattle.raft_core.specs.Reads.{read_replies, refused_left, refused_replies, with_heard}
+use Rattle.raft_peers.specs.Parts.{assembled}
+use Rattle.raft_reads.specs.Reads.{read_replies, refused_left, refused_replies, with_heard}
 use Rattle.raft_core.proofs.Told.{before, before_read, behind_read, none_appended, none_asked, none_granted, none_read, none_went}
 
 abbrev pub NoOk : List Reply → Type 0

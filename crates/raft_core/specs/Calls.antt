@@ -17,21 +17,21 @@ use Rattle.raft_node.specs.declared.given.Given.{Given}
 use Rattle.raft_store.specs.Types.{EngineView}
 use Rattle.raft_codec.specs.Codec.{Codec}
 use Rattle.raft_chunks.specs.Assembly.{cursor_of, nothing}
-use Rattle.raft_packed_server.specs.proof_packed.Nodes.{PackedMessage, PackedRecords}
-use Rattle.raft_packed_server.specs.proof_packed.Stores.{Application, Packed}
-use Rattle.raft_packed_server.specs.proof_packed_servers.Servers.{PackedServer}
-use Rattle.raft_packed_server.specs.raft_packed_wire.declared.packet.PackedContent.{PackedContent}
-use Rattle.raft_packed_server.specs.raft_packed_wire.declared.packet.PackedContent.TheVariants as content
-use Rattle.raft_packed_server.specs.raft_packed_wire.declared.packet.SentPart.{SentPart}
-use Rattle.raft_packed_server.specs.raft_packed_wire.Messages.{received}
-use Rattle.raft_packed_server.specs.raft_packed_wire.Values.{kept}
-use Rattle.raft_packed_server.specs.declared.error.ServerError.{ServerError}
-use Rattle.raft_packed_server.specs.declared.batch.Written.{Written}
-use Rattle.raft_packed_server.specs.declared.serving.Serving.{Serving}
-use Rattle.raft_packed_server.specs.Checkpoints.{IsNewLog, with_new_log}
-use Rattle.raft_packed_server.specs.Recovery.{OpensOn}
-use Rattle.raft_packed_server.specs.Represents.{Flushes, HandsOut, Represents}
-use Rattle.raft_packed_server.specs.Views.{ServerView, released}
+use Rattle.raft_peers.specs.proof_packed.Nodes.{PackedMessage, PackedRecords}
+use Rattle.raft_peers.specs.proof_packed.Stores.{Application, Packed}
+use Rattle.raft_peers.specs.proof_packed_servers.Servers.{PackedServer}
+use Rattle.raft_peers.specs.raft_packed_wire.declared.packet.PackedContent.{PackedContent}
+use Rattle.raft_peers.specs.raft_packed_wire.declared.packet.PackedContent.TheVariants as content
+use Rattle.raft_peers.specs.raft_packed_wire.declared.packet.SentPart.{SentPart}
+use Rattle.raft_peers.specs.raft_packed_wire.Messages.{received}
+use Rattle.raft_peers.specs.raft_packed_wire.Values.{kept}
+use Rattle.raft_peers.specs.raft_packed_server.declared.error.ServerError.{ServerError}
+use Rattle.raft_peers.specs.raft_packed_server.declared.batch.Written.{Written}
+use Rattle.raft_peers.specs.raft_packed_server.declared.serving.Serving.{Serving}
+use Rattle.raft_peers.specs.raft_packed_server.Checkpoints.{IsNewLog, with_new_log}
+use Rattle.raft_peers.specs.raft_packed_server.Recovery.{OpensOn}
+use Rattle.raft_peers.specs.raft_packed_server.Represents.{Flushes, HandsOut, Represents}
+use Rattle.raft_peers.specs.raft_packed_server.Views.{ServerView, released}
 use Rattle.raft_answers.specs.declared.answer.Answer.TheVariants.{NotLeader}
 use Rattle.raft_answers.specs.declared.answer.Reply.{Reply}
 use Rattle.raft_answers.specs.declared.request.Operation.{Operation}
@@ -43,21 +43,23 @@ use Rattle.raft_answers.specs.Requests.{Batched, IsBatched, Open, no_requests}
 use Rattle.raft_core.specs.declared.driver.OpenedCore.{OpenedCore}
 use Rattle.raft_core.specs.declared.error.FrameError.{FrameError}
 use Rattle.raft_core.specs.declared.error.FrameError.TheVariants.{Core}
-use Rattle.raft_core.specs.declared.frame.Frame.{Frame}
-use Rattle.raft_core.specs.declared.frame.Frame.TheVariants as frames
-use Rattle.raft_core.specs.declared.frame.PartReply.{PartReply}
-use Rattle.raft_core.specs.declared.frame.PreVote.{PreVote}
-use Rattle.raft_core.specs.declared.frame.PreVoteReply.{PreVoteReply}
+use Rattle.raft_peers.specs.declared.frame.Frame.{Frame}
+use Rattle.raft_peers.specs.declared.frame.Frame.TheVariants as frames
+use Rattle.raft_peers.specs.declared.frame.PartReply.{PartReply}
+use Rattle.raft_peers.specs.declared.frame.PreVote.{PreVote}
+use Rattle.raft_peers.specs.declared.frame.PreVoteReply.{PreVoteReply}
 use Rattle.raft_core.specs.declared.moves.Move.{Move}
-use Rattle.raft_core.specs.declared.output.Output.{Output}
-use Rattle.raft_core.specs.declared.output.Output.TheVariants as outputs
+use Rattle.raft_peers.specs.declared.output.Output.{Output}
+use Rattle.raft_peers.specs.declared.output.Output.TheVariants as outputs
 use Rattle.raft_core.specs.Views.{CoreView}
-use Rattle.raft_core.specs.Frames.{IsFrame, answered, asked, granted}
-use Rattle.raft_core.specs.Outputs.{Sends, lost_left, lost_replies, overdue_left, overdue_replies, reads_out, replies_out, said_outputs}
+use Rattle.raft_peers.specs.Frames.{IsFrame, answered, asked, granted}
+use Rattle.raft_core.specs.Outputs.{lost_left, lost_replies, overdue_left, overdue_replies, reads_out, replies_out, said_outputs}
+use Rattle.raft_peers.specs.Sends.{Sends}
 use Rattle.raft_core.specs.Outputs.{settled_all}
-use Rattle.raft_core.specs.Parts.{AreParts, AreWhole, Comes, Outgoing, assembled}
-use Rattle.raft_core.specs.Reads.{ReadsView, handed_after, failed_left, failed_replies, is_free, no_reads, read_left, read_replies, refused_left}
-use Rattle.raft_core.specs.Reads.{refused_replies, with_heard, with_left, with_round}
+use Rattle.raft_peers.specs.Parts.{AreParts, AreWhole, Comes, Outgoing, assembled}
+use Rattle.raft_reads.specs.Reads.{ReadsView, failed_left, failed_replies, is_free, no_reads, read_left, read_replies, refused_left}
+use Rattle.raft_core.specs.Outputs.{handed_after}
+use Rattle.raft_reads.specs.Reads.{refused_replies, with_heard, with_left, with_round}
 use Rattle.raft_core.specs.Steps.{TakesAct, TakesActs, TakesSteps, act_of, step_taking}
 
 -- One that was opened goes on at the end of its log, with no requests. Beside it stands what its log's snapshot has: what its start hands out goes

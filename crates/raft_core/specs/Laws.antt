@@ -8,11 +8,11 @@ use Rattle.raft_answers.specs.declared.request.Token.{Token}
 use Rattle.raft_answers.specs.Laws.{AnswersFirst}
 use Rattle.raft_answers.specs.Requests.{tokens_of}
 use Rattle.raft_codec.specs.Codec.{Codec}
-use Rattle.raft_packed_server.specs.proof_packed.Stores.{Application}
-use Rattle.raft_core.specs.declared.output.Output.{Output}
-use Rattle.raft_core.specs.declared.output.Output.TheVariants as outputs
+use Rattle.raft_peers.specs.proof_packed.Stores.{Application}
+use Rattle.raft_peers.specs.declared.output.Output.{Output}
+use Rattle.raft_peers.specs.declared.output.Output.TheVariants as outputs
 use Rattle.raft_core.specs.Views.{CoreView}
-use Rattle.raft_core.specs.Reads.{read_tokens}
+use Rattle.raft_reads.specs.Reads.{read_tokens}
 use Rattle.raft_core.specs.Calls.{Admits, AdmitsRead, Receives, Releases, Ticks, Writes}
 
 -- the replies that leave

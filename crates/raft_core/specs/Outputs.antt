@@ -1,72 +1,15 @@
 -- What leaves.
-use Rattle.std.specs.Prelude.{ℕ, ◌≡◌, ◌⊎◌, Bool, Contains, List, [], ◌∷◌, ◌++◌, map, if◌then◌else◌}
+use Rattle.std.specs.Prelude.{ℕ, Bool, List, [], ◌∷◌, ◌++◌, map, Option, None, Some, if◌then◌else◌}
+use Rattle.std.specs.List.{fold}
 use Rattle.raft_answers.specs.declared.answer.Reply.{Reply}
 use Rattle.raft_answers.specs.declared.request.Proposal.{Proposal}
 use Rattle.raft_answers.specs.Answers.{ended, expired, expired_replies, settled, settled_left, settled_replies}
 use Rattle.raft_answers.specs.Requests.{Open}
-use Rattle.raft_calls.specs.declared.message.Body.{Body}
-use Rattle.raft_calls.specs.declared.message.Body.TheVariants.{SnapshotRequest}
-use Rattle.raft_codec.specs.Codec.{Codec}
 use Rattle.raft_store.specs.declared.entry.Entry.{Entry}
-use Rattle.raft_packed_server.specs.proof_packed.Nodes.{PackedInstalled, PackedMessage, PackedRecords}
-use Rattle.raft_packed_server.specs.proof_packed.Stores.{Application, Packed}
-use Rattle.raft_packed_server.specs.raft_packed_wire.declared.packet.PackedContent.TheVariants as content
-use Rattle.raft_packed_server.specs.raft_packed_wire.declared.packet.PackedPacket.{PackedPacket}
-use Rattle.raft_packed_server.specs.raft_packed_wire.declared.packet.SentMessage.{SentMessage}
-use Rattle.raft_packed_server.specs.raft_packed_wire.Messages.{packed_packet, received}
-use Rattle.raft_packed_server.specs.raft_packed_wire.Values.{kept}
-use Rattle.raft_core.specs.declared.output.Output.{Output}
-use Rattle.raft_core.specs.declared.output.Output.TheVariants as outputs
-use Rattle.raft_core.specs.Parts.{AreParts, Outgoing, outgoing_of}
-
--- a request to install a snapshot
-abbrev pub BringsSnapshot : Body → Type 0
-BringsSnapshot (SnapshotRequest origin snapshot) = Unit {0}
-BringsSnapshot _ = ⊥
-
--- a message in a packet of this start
-abbrev pub packet_of : {P : Type 0} → ℕ → SentMessage P → PackedPacket P
-packet_of start m = record { start = start; content = content.Message m }
-
-module _ {S : Type 0} (c : Codec S) where
-  -- its frame
-  abbrev pub packet_frame : ℕ → SentMessage (Packed S) → List ℕ
-  packet_frame start m = 0 ∷ (packed_packet (kept c)).bytes (packet_of start m)
-
-  abbrev pub sent : ℕ → SentMessage (Packed S) → Output S
-  sent start m = outputs.Send m.message.to (packet_frame start m)
-
-module _ {S : Type 0} (app : Application S) (c : Codec S) (start : ℕ) where
-  -- A message leaves as a frame, and can be read back: one that brings the snapshot of no entries may have that, or none.
-  pub record LeavesWhole (m : PackedMessage S) (out : List (Output S)) : Type 0 where
-    pub packet : SentMessage (Packed S)
-    pub of_message : received app packet ≡ m
-    pub fits : (packed_packet (kept c)).fits (packet_of start packet)
-    pub leaves : out ≡ sent c start packet ∷ []
-
-  -- or it leaves in parts: some of them now, and the others later
-  pub record LeavesInParts (m : PackedMessage S) (out : List (Output S)) : Type 0 where
-    pub brings : BringsSnapshot m.message.body
-    pub fits : (kept c).fits m.brought
-    pub parts : AreParts c start (outgoing_of c m) out
-
-  -- messages leave, in their order
-  abbrev pub LeaveAll : List (PackedMessage S) → List (Output S) → Type 0
-  LeaveAll [] out = out ≡ []
-  LeaveAll (m ∷ ms) out =
-      (front rest : List (Output S)) × (out ≡ front ++ rest) × (LeavesWhole m front ⊎ LeavesInParts m front) × LeaveAll ms rest
-
-  -- a message among these goes out in parts
-  pub record IsBegun (messages : List (PackedMessage S)) (o : Outgoing) : Type 0 where
-    pub message : PackedMessage S
-    pub among : Contains messages message
-    pub fits : (kept c).fits message.brought
-    pub is : o ≡ outgoing_of c message
-
-  -- What messages leave. What is outgoing by then was before, or is one of them.
-  pub record Sends (messages : List (PackedMessage S)) (old : List Outgoing) (out : List (Output S)) (new : List Outgoing) : Type 0 where
-    pub leave : LeaveAll messages out
-    pub outgoing : (o : Outgoing) → Contains new o → Contains old o ⊎ IsBegun messages o
+use Rattle.raft_node.specs.declared.record.Executed.{Executed}
+use Rattle.raft_peers.specs.proof_packed.Nodes.{PackedInstalled, PackedRecords}
+use Rattle.raft_peers.specs.declared.output.Output.{Output}
+use Rattle.raft_peers.specs.declared.output.Output.TheVariants as outputs
 
 module _ {S : Type 0} where
   abbrev pub install : PackedInstalled S → Output S
@@ -112,3 +55,16 @@ overdue_left lost upto o = expired upto (lost_left lost o)
 
 abbrev pub overdue_replies : Bool → ℕ → Open → List Reply
 overdue_replies lost upto o = lost_replies lost o ++ expired_replies upto (lost_left lost o)
+
+-- What is handed out
+
+-- the index of the last entry that was handed out, after one more, and after these more
+abbrev pub executed_one : Option ℕ → Executed → Option ℕ
+executed_one before x = Some x.entry.log_id.index
+
+abbrev pub executed_after : List Executed → Option ℕ → Option ℕ
+executed_after xs last = fold executed_one last xs
+
+-- the same after what steps say; it isn't known once a snapshot was put in place of what was there
+abbrev pub handed_after : {S : Type 0} → PackedRecords S → Option ℕ → Option ℕ
+handed_after said last = elim said.installed [ [] ↦ executed_after said.executed last | y ∷ ys ↦ None ]

@@ -5,13 +5,13 @@ use Rattle.raft_node.specs.declared.act.Act.{Act}
 use Rattle.raft_node.specs.declared.act.Act.TheVariants as acts
 use Rattle.raft_node.specs.declared.given.Given.{Given}
 use Rattle.raft_schedule.specs.declared.event.Outcome.{Outcome}
-use Rattle.raft_packed_server.specs.proof_packed.Nodes.{PackedMessage, of_no_entries}
-use Rattle.raft_packed_server.specs.proof_packed.Stores.{Application}
-use Rattle.raft_packed_server.specs.proof_packed_servers.Servers.{PackedServer, PackedStep, packed_with_step}
-use Rattle.raft_packed_server.specs.declared.error.ServerError.{ServerError}
-use Rattle.raft_packed_server.specs.Represents.{Represents, Takes}
-use Rattle.raft_packed_server.specs.declared.serving.Serving.{Serving}
-use Rattle.raft_packed_server.specs.Views.{IsWithTaken, ServerView}
+use Rattle.raft_peers.specs.proof_packed.Nodes.{PackedMessage, of_no_entries}
+use Rattle.raft_peers.specs.proof_packed.Stores.{Application}
+use Rattle.raft_peers.specs.proof_packed_servers.Servers.{PackedServer, PackedStep, packed_with_step}
+use Rattle.raft_peers.specs.raft_packed_server.declared.error.ServerError.{ServerError}
+use Rattle.raft_peers.specs.raft_packed_server.Represents.{Represents, Takes}
+use Rattle.raft_peers.specs.raft_packed_server.declared.serving.Serving.{Serving}
+use Rattle.raft_peers.specs.raft_packed_server.Views.{IsWithTaken, ServerView}
 use Rattle.raft_core.specs.declared.moves.Move.{Move}
 use Rattle.raft_core.specs.declared.moves.Move.TheVariants.{Beat, ChangeLearners, ChangeVoters, Fail, FinishSnapshot, Stand, StepDown}
 

@@ -2,9 +2,9 @@
 use Rattle.std.specs.Prelude.{ℕ, List, Option}
 use Rattle.raft_chunks.specs.Assembled.{Assembled}
 use Rattle.raft_answers.specs.Requests.{Open}
-use Rattle.raft_packed_server.specs.Views.{ServerView}
-use Rattle.raft_core.specs.Parts.{Outgoing}
-use Rattle.raft_core.specs.Reads.{ReadsView}
+use Rattle.raft_peers.specs.raft_packed_server.Views.{ServerView}
+use Rattle.raft_peers.specs.Parts.{Outgoing}
+use Rattle.raft_reads.specs.Reads.{ReadsView}
 
 -- A server: its id, the moment of its start, its clock, the server of `raft_packed_server`, its clients' requests without an answer, the index of the
 -- last entry that it has handed out since its start, if no snapshot was installed with it or after it, and its clients' reads that need no

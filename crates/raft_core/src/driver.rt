@@ -3,7 +3,7 @@
 ghost use Rattle.std.specs.Prelude.{◌≡◌, ◌≤◌, ◌⊎◌, ◌∷◌, ◌++◌, [], IfOk, IfErr, IfSome, Ok, OnErr, OnOk, Some, map};
 ghost use Rattle.raft_chunks.specs.Chunks.{piece_of};
 ghost use Rattle.raft_chunks.specs.Form.{opened, piece};
-ghost use Rattle.raft_packed_server.specs.raft_packed_wire.declared.packet.SentPart.{SentPart as Part};
+ghost use Rattle.raft_peers.specs.raft_packed_wire.declared.packet.SentPart.{SentPart as Part};
 ghost use Rattle.raft_node.specs.declared.act.Act.TheVariants.{Initialize, Propose};
 ghost use Rattle.raft_store.specs.Types.{EngineView};
 ghost use Rattle.raft_calls.specs.LeaderCalls.{read_answer};
@@ -13,26 +13,20 @@ ghost use Rattle.raft_core.specs.Calls.{GoesOn, Hears, IsNextId, IsRefusal, Keep
 ghost use Rattle.raft_core.specs.Calls.{Receives, RefusesAll, RefusesReads, Releases, TakesFrame, TakesMessage, Ticks, Writes, appended};
 ghost use Rattle.raft_core.specs.Calls.{engine_in, moment_in};
 ghost use Rattle.raft_core.specs.Outputs.{reads_out, replies_out};
-ghost use Rattle.raft_core.specs.Reads.{with_heard};
+ghost use Rattle.raft_reads.specs.Reads.{with_heard};
 ghost use Rattle.raft_core.specs.Steps.{TakesAct};
-ghost use Rattle.raft_core.specs.declared.frame.Frame.TheVariants as frames;
+ghost use Rattle.raft_peers.specs.declared.frame.Frame.TheVariants as frames;
 
 use crate::clock::Clock;
 use crate::config::{Config, PeerLimits};
 use crate::election::answer;
 use crate::error::{CoreError, FrameError, RequestError};
-use crate::frame::{
-    Frame, PartReply, PreVote, PreVoteReply, answer_part, ask_all, grant_all, read_frame, term_of,
-};
 use crate::length::LogLength;
 use crate::membership::Target;
 use crate::moves::Move;
 use crate::node::{engine_of, is_building, next_id, other_leader};
-use crate::output::{Output, push};
-use crate::parts::{Incoming, Outgoing, go_on, keep_of};
 use crate::policy::{Plan, Policy};
-use crate::reads::{Question, Reader, Reads};
-use crate::release::{Sender, leave, read_all, reply_all};
+use crate::release::{leave, read_all, reply_all};
 use crate::steps::{take, take_all, take_with};
 use raft_answers::{
     Answer, Batch, Limits, Operation, Place, Reply, Request, Requests, Token, fail,
@@ -43,11 +37,18 @@ use raft_chunks::{Chunk, Title};
 use raft_frames::LogId as LogName;
 use raft_node::act::Act;
 use raft_node::given::Given;
-use raft_packed_server::raft_packed::{Machine, Packed};
-use raft_packed_server::raft_packed_node::{PackedAct, PackedMessage, StepError};
-use raft_packed_server::raft_packed_wire::{PackedContent, PackedPacket, SentPart};
-use raft_packed_server::{OpenError, Server, Written};
+use raft_peers::frame::{
+    Frame, PartReply, PreVote, PreVoteReply, answer_part, ask_all, grant_all, read_frame, term_of,
+};
+use raft_peers::output::{Output, push};
+use raft_peers::parts::{Incoming, Outgoing, go_on, keep_of};
+use raft_peers::raft_packed_server::raft_packed::{Machine, Packed};
+use raft_peers::raft_packed_server::raft_packed_node::{PackedAct, PackedMessage, StepError};
+use raft_peers::raft_packed_server::raft_packed_wire::{PackedContent, PackedPacket, SentPart};
+use raft_peers::raft_packed_server::{OpenError, Server, Written};
+use raft_peers::send::Sender;
 use raft_progress::Joint;
+use raft_reads::{Question, Reader, Reads};
 use raft_schedule::event::Outcome;
 use raft_state::{Items, LeaderId, LogId};
 use raft_store::Value;

@@ -1,10 +1,10 @@
 //! When a server stands for election.
 
 use crate::clock::Clock;
-use crate::frame::{PreVote, PreVoteReply};
 use crate::moves::{Move, push_move};
 use crate::node::{is_leased, is_member, is_quorum, leader_of};
 use raft_engine::Engine;
+use raft_peers::frame::{PreVote, PreVoteReply};
 use raft_store::WorldConfig;
 use std::alloc::{AllocError, Global};
 

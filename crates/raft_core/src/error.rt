@@ -1,8 +1,8 @@
 //! Why a call was refused.
 
 use raft_answers::Refusal;
-use raft_packed_server::ServerError;
-use raft_wire::DecodeError;
+use raft_codec::DecodeError;
+use raft_peers::raft_packed_server::ServerError;
 use std::alloc::AllocError;
 use thiserror::Error;
 

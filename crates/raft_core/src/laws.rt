@@ -2,7 +2,7 @@
 
 ghost use Rattle.raft_core.specs.Laws.{ClientsAreAnsweredOnce, OnlyReleasesTellOk, OnlyRoundsTellOk, ReadsAreAnsweredOnce};
 
-use raft_packed_server::raft_packed::Machine;
+use raft_peers::raft_packed_server::raft_packed::Machine;
 
 /// Each request that was taken is answered at most once, by a call after it came; in the order in which they came.
 pub fn clients_are_answered_once<M: Machine>()

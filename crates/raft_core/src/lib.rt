@@ -34,25 +34,21 @@
 //! for a peer the caller knows alone.
 #![tactic(auto)]
 
-pub use raft_packed_server;
-pub use raft_packed_server::raft_packed;
+pub use raft_peers::raft_packed_server;
+pub use raft_peers::raft_packed_server::raft_packed;
 
 mod clock;
 mod config;
 mod driver;
 mod election;
 mod error;
-mod frame;
 mod laws;
 mod lead;
 mod length;
 mod membership;
 mod moves;
 mod node;
-mod output;
-mod parts;
 mod policy;
-mod reads;
 mod release;
 mod steps;
 
@@ -62,4 +58,4 @@ pub use error::{CoreError, FrameError, RequestError};
 pub use laws::{
     clients_are_answered_once, only_releases_tell_ok, only_rounds_tell_ok, reads_are_answered_once,
 };
-pub use output::Output;
+pub use raft_peers::output::Output;

@@ -6,8 +6,8 @@ ghost use Rattle.raft_calls.specs.Engines.{view_of};
 ghost use Rattle.raft_core.specs.Calls.{IsNext, engine_in, leader_id_of};
 
 use raft_engine::Engine;
-use raft_packed_server::Server;
-use raft_packed_server::raft_packed::Machine;
+use raft_peers::raft_packed_server::Server;
+use raft_peers::raft_packed_server::raft_packed::Machine;
 use raft_progress::{Joint, QuorumSet};
 use raft_state::{LeaderId, LogId};
 use raft_store::WorldConfig;

@@ -4,12 +4,12 @@
 use crate::clock::Clock;
 use crate::config::Config;
 use crate::election::{Election, jitter_of};
-use crate::frame::{PreVote, PreVoteReply};
 use crate::lead::Lead;
 use crate::membership::Target;
 use crate::moves::{Move, push_move};
 use crate::node::leader_of;
 use raft_engine::Engine;
+use raft_peers::frame::{PreVote, PreVoteReply};
 use raft_state::LeaderId;
 use raft_store::WorldConfig;
 use std::alloc::{AllocError, Global};

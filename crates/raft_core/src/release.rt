@@ -1,123 +1,23 @@
 //! What leaves once steps wait for no record.
 
-ghost use Rattle.std.specs.Prelude.{◌≡◌, ◌⊎◌, ◌++◌, ◌∷◌, [], Contains, IfOk, IfSome, List, None, OnOk, Some, map};
+ghost use Rattle.std.specs.Prelude.{◌≡◌, ◌++◌, ◌∷◌, [], IfOk, List, None, OnOk, Some, map};
 ghost use Rattle.raft_answers.specs.Answers.{settled};
-ghost use Rattle.raft_core.specs.declared.output.Output.{Output};
-ghost use Rattle.raft_packed_server.specs.raft_packed_wire.Messages.{packed_packet};
-ghost use Rattle.raft_packed_server.specs.raft_packed_wire.Values.{kept};
-ghost use Rattle.raft_core.specs.Outputs.{BringsSnapshot, IsBegun, LeavesInParts, LeavesWhole, Sends, executed_out, executed_outputs, install};
-ghost use Rattle.raft_core.specs.Outputs.{packet_of, reads_out};
-ghost use Rattle.raft_core.specs.Parts.{Outgoing as Going, outgoing_of};
-ghost use Rattle.raft_core.specs.Outputs.{replies_out, said_outputs, sent, settled_all};
-ghost use Rattle.raft_core.specs.Reads.{executed_after, handed_after, read_left, read_replies, with_left};
+ghost use Rattle.raft_peers.specs.Sends.{Sends};
+ghost use Rattle.raft_peers.specs.declared.output.Output.{Output};
+ghost use Rattle.raft_core.specs.Outputs.{executed_out, executed_outputs, install, reads_out, replies_out, said_outputs, settled_all};
+ghost use Rattle.raft_reads.specs.Reads.{read_left, read_replies, with_left};
+ghost use Rattle.raft_core.specs.Outputs.{executed_after, handed_after};
 
-use crate::frame::packet_bytes;
-use crate::output::{Output, push};
-use crate::parts::{Outgoing, begin, snapshot_bytes};
-use crate::reads::Reads;
 use raft_answers::{Reply, Requests};
-use raft_calls::message::Body;
 use raft_node::record::Executed;
-use raft_packed_server::Said;
-use raft_packed_server::raft_packed::{Machine, Packed};
-use raft_packed_server::raft_packed_node::{PackedInstalled, PackedMessage};
-use raft_packed_server::raft_packed_wire::{PackedContent, PackedPacket, SentMessage};
+use raft_peers::output::{Output, push};
+use raft_peers::parts::Outgoing;
+use raft_peers::raft_packed_server::Said;
+use raft_peers::raft_packed_server::raft_packed::Machine;
+use raft_peers::raft_packed_server::raft_packed_node::PackedInstalled;
+use raft_peers::send::{Sender, send_all};
+use raft_reads::Reads;
 use std::alloc::{AllocError, Global};
-
-/// A message leaves as a frame.
-fn send<M: Machine>(
-    alloc: Global,
-    start: u64,
-    message: SentMessage<Packed<M>>,
-    outputs: &mut Vec<Output<M>>,
-) -> Result<(), AllocError>
-    ensures sent { OnOk result (outputs.new.items ≡ outputs.old.items ++ sent M.codec start message ∷ []) }
-    ensures fits { OnOk result ((packed_packet (kept M.codec)).fits (packet_of start message)) }
-{
-    let to = message.message.to;
-    let packet = PackedPacket {
-        start,
-        content: PackedContent::Message(message),
-    };
-    let bytes = packet_bytes(alloc, &packet)?;
-    push(Output::Send { to, bytes }, outputs)
-}
-
-/// From where a server sends, and how much at a time.
-#[derive(Clone, Copy)]
-pub struct Sender {
-    /// The moment of its start.
-    pub start: u64,
-    /// The most bytes of a snapshot that leave in a frame.
-    pub most: usize,
-}
-
-/// The snapshot that a request to install brings.
-fn brought<M: Machine>(message: &PackedMessage<M>) -> Option<&Packed<M>>
-    ensures { IfSome result (λ p. BringsSnapshot message.now.message.body × (p.now ≡ message.now.brought)) }
-{
-    match (&message.message.body, &message.snapshot) {
-        (Body::SnapshotRequest { .. }, Some(snapshot)) => Some(snapshot),
-        _ => None,
-    }
-}
-
-/// A message as it goes out in parts, if it brings a snapshot of more than so many bytes.
-fn outgoing<M: Machine>(
-    alloc: Global,
-    most: usize,
-    message: &PackedMessage<M>,
-) -> Result<Option<Outgoing>, AllocError>
-    ensures { IfOk result (λ found. IfSome found (λ o. (o ≡ outgoing_of M.codec message.now)
-        × BringsSnapshot message.now.message.body × (kept M.codec).fits message.now.brought)) }
-{
-    let Some(snapshot) = brought(message) else {
-        return Ok(None);
-    };
-    let bytes = snapshot_bytes(alloc, snapshot)?;
-    if bytes.len() <= most {
-        return Ok(None);
-    }
-    let copied = message.message.copy(alloc)?;
-    Ok(Some(Outgoing::new(copied, snapshot.end(), bytes)))
-}
-
-/// A message leaves in a packet; or it begins to go out in parts.
-fn send_one<M: Machine>(
-    alloc: Global,
-    sender: Sender,
-    message: PackedMessage<M>,
-    going: &mut Vec<Outgoing>,
-    outputs: &mut Vec<Output<M>>,
-) -> Result<(), AllocError>
-    ensures leaves { OnOk result ((out : List (Output M)) × (outputs.new.items ≡ outputs.old.items ++ out)
-        × (LeavesWhole M.application M.codec sender.start message out ⊎ LeavesInParts M.application M.codec sender.start message out)) }
-    ensures going { OnOk result ((o : Going) → Contains going.new.items o
-        → Contains going.old.items o ⊎ IsBegun M.application M.codec sender.start (message ∷ []) o) }
-{
-    match outgoing(alloc, sender.most, &message)? {
-        Some(one) => begin(alloc, sender.start, sender.most, one, going, outputs),
-        None => send(alloc, sender.start, SentMessage::new(message), outputs),
-    }
-}
-
-/// Messages leave in packets, or begin to go out in parts.
-fn send_all<M: Machine>(
-    alloc: Global,
-    sender: Sender,
-    messages: Vec<PackedMessage<M>>,
-    going: &mut Vec<Outgoing>,
-    outputs: &mut Vec<Output<M>>,
-) -> Result<(), AllocError>
-    ensures { OnOk result ((frames : List (Output M))
-        × Sends M.application M.codec sender.start messages.items going.old.items frames going.new.items
-        × (outputs.new.items ≡ outputs.old.items ++ frames)) }
-{
-    for message in messages {
-        send_one(alloc, sender, message, going, outputs)?;
-    }
-    Ok(())
-}
 
 /// Snapshots are to be installed.
 fn install_all<M: Machine>(
@@ -249,7 +149,7 @@ fn release<M: Machine>(
 }
 
 /// The node's answers are among what leaves, if there are some.
-#[tactic(auto, using(crate::proofs::Reading::left_both))]
+#[tactic(auto, using(raft_reads::proofs::Reading::left_both))]
 fn note_answers<M: Machine>(said: &Said<M>, reads: &mut Reads)
     ensures { reads.new ≡ with_left said.now.answers reads.old }
 {

@@ -1,16 +1,16 @@
 //! Steps at a server.
 
 ghost use Rattle.std.specs.Prelude.{OnOk, IfOk, map};
-ghost use Rattle.raft_packed_server.specs.Views.{step_of};
+ghost use Rattle.raft_peers.specs.raft_packed_server.Views.{step_of};
 ghost use Rattle.raft_core.specs.Steps.{TakesAct, TakesActs, TakesStep, act_of};
 
 use crate::clock::Clock;
 use crate::error::CoreError;
 use crate::moves::{Move, act_of};
 use raft_node::act::Act;
-use raft_packed_server::Server;
-use raft_packed_server::raft_packed::Machine;
-use raft_packed_server::raft_packed_node::PackedAct;
+use raft_peers::raft_packed_server::Server;
+use raft_peers::raft_packed_server::raft_packed::Machine;
+use raft_peers::raft_packed_server::raft_packed_node::PackedAct;
 use raft_schedule::event::Outcome;
 
 /// Takes an act as a step, with the snapshot that it brings, at the clock's moment.

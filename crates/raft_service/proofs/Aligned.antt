@@ -15,10 +15,10 @@ use Rattle.raft_connection.specs.declared.connection.Step.TheVariants as step_is
 use Rattle.raft_connection.specs.declared.session.Work.{Work}
 use Rattle.raft_connection.specs.declared.session.Work.TheVariants as work
 use Rattle.raft_core.specs.Laws.{AnswersOnce, AnswersReads, ClientsAreAnsweredOnce, ReadsAreAnsweredOnce, read_replies_of, replies_of}
-use Rattle.raft_core.specs.Reads.{ReadsView, read_tokens}
-use Rattle.raft_core.specs.declared.output.Output.TheVariants as core
+use Rattle.raft_core.specs.raft_reads.Reads.{ReadsView, read_tokens}
+use Rattle.raft_core.specs.raft_peers.declared.output.Output.TheVariants as core
 use Rattle.raft_core.specs.Calls.{Receives, Releases, Ticks, Writes}
-use Rattle.raft_core.specs.declared.reads.Reader.{Reader}
+use Rattle.raft_core.specs.raft_reads.declared.reads.Reader.{Reader}
 use Rattle.raft_executor.specs.KeyValue.{application}
 use Rattle.raft_machine.specs.Bytes.{state}
 use Rattle.raft_service.specs.Calls.{Calls, at_moment, with_core}

@@ -33,7 +33,7 @@ use Rattle.raft_connection.specs.declared.pending.Waiting.{Waiting}
 use Rattle.raft_connection.specs.declared.session.Work.{Work}
 use Rattle.raft_connection.specs.declared.session.Work.TheVariants as work
 use Rattle.raft_core.specs.Calls.{Receives, Releases, Ticks, Writes}
-use Rattle.raft_core.specs.declared.output.Output.TheVariants as core
+use Rattle.raft_core.specs.raft_peers.declared.output.Output.TheVariants as core
 use Rattle.raft_executor.specs.KeyValue.{application}
 use Rattle.raft_machine.specs.Bytes.{state}
 use Rattle.raft_service.specs.Calls.{Calls, Feeds, Joins, Leaves, Opens, at_moment, with_core}

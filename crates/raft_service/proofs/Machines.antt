@@ -4,7 +4,7 @@ use Rattle.std.specs.List.{fold}
 use Rattle.std.proofs.lemmas.List.Sums.{fold-append}
 use Rattle.raft_answers.specs.declared.answer.Answer as raft_answer
 use Rattle.raft_answers.specs.declared.answer.Answer.TheVariants as answers
-use Rattle.raft_core.specs.declared.output.Output.TheVariants as core
+use Rattle.raft_core.specs.raft_peers.declared.output.Output.TheVariants as core
 use Rattle.raft_executor.specs.Executor.{Executed, executed_of}
 use Rattle.raft_executor.specs.KeyValue.{application}
 use Rattle.raft_machine.specs.Machine.{State}

@@ -1,6 +1,6 @@
 -- The server behind a service: its snapshots are states of the key-value machine.
 use Rattle.raft_core.specs.Views.{CoreView}
-use Rattle.raft_core.specs.declared.output.Output as core_output
+use Rattle.raft_core.specs.raft_peers.declared.output.Output as core_output
 use Rattle.raft_core.specs.declared.driver.OpenedCore as opened
 use Rattle.raft_machine.specs.Machine.{State}
 

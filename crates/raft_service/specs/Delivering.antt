@@ -7,7 +7,7 @@ use Rattle.raft_answers.specs.declared.request.Token.{Token}
 use Rattle.raft_clients.specs.Clients.{Answers}
 use Rattle.raft_connection.specs.declared.answer.Answer.{Answer}
 use Rattle.raft_connection.specs.declared.answer.Answer.TheVariants.{Replies, NoLeader, Outdated, Reused, Interrupted}
-use Rattle.raft_core.specs.declared.output.Output.TheVariants as core
+use Rattle.raft_core.specs.raft_peers.declared.output.Output.TheVariants as core
 use Rattle.raft_executor.specs.Executor.{Executed, executed, executed_of, installed, without_outcome}
 use Rattle.raft_machine.specs.Commands.{answer}
 use Rattle.raft_machine.specs.declared.machine.Outcome.{Outcome}

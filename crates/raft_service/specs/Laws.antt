@@ -9,8 +9,8 @@ use Rattle.raft_connection.specs.Pending.{waiting_count}
 use Rattle.raft_connection.specs.declared.connection.Connection.{Connection}
 use Rattle.raft_core.specs.Calls.{Receives, Releases, Ticks, Writes}
 use Rattle.raft_core.specs.Laws.{ClientsAreAnsweredOnce, ReadsAreAnsweredOnce}
-use Rattle.raft_core.specs.Reads.{read_tokens}
-use Rattle.raft_core.specs.declared.output.Output.TheVariants as core
+use Rattle.raft_core.specs.raft_reads.Reads.{read_tokens}
+use Rattle.raft_core.specs.raft_peers.declared.output.Output.TheVariants as core
 use Rattle.raft_executor.specs.Executor.{executed_of}
 use Rattle.raft_executor.specs.KeyValue.{application}
 use Rattle.raft_machine.specs.Bytes.{state}

@@ -1,6 +1,7 @@
 use Rattle.std.proofs.Common.{◌≡◌, ◌∙◌, ◌++◌}
 use Rattle.raft_core.specs.Outputs.{reads_out}
-use Rattle.raft_core.specs.Reads.{handed_after, read_replies, with_left}
+use Rattle.raft_reads.specs.Reads.{read_replies, with_left}
+use Rattle.raft_core.specs.Outputs.{handed_after}
 use Rattle.raft_core.proofs.release.leave.Goals as goal
 
 pub returns-clause-outputs : goal.returns-clause-outputs

@@ -1,7 +1,7 @@
 use Rattle.std.proofs.Common.{[], ◌∷◌, ◌∙◌, List, ap, map, subst, sym}
 use Rattle.std.proofs.lemmas.List.{map-append}
 use Rattle.raft_node.specs.declared.act.Act.{Act}
-use Rattle.raft_packed_server.specs.proof_packed_servers.Servers.{PackedStep}
+use Rattle.raft_peers.specs.proof_packed_servers.Servers.{PackedStep}
 use Rattle.raft_core.specs.Steps.{TakesAct, TakesSteps, act_of, step_at, steps_at}
 use Rattle.raft_core.proofs.Stepped.{no_steps, one_more}
 use Rattle.raft_core.proofs.steps.take_all.Goals as goal

@@ -1,5 +1,5 @@
 use Rattle.std.proofs.Common.{◌∙◌, ap}
-use Rattle.raft_core.specs.Reads.{with_heard}
+use Rattle.raft_reads.specs.Reads.{with_heard}
 use Rattle.raft_core.specs.Views.{CoreView}
 use Rattle.raft_core.proofs.driver.RaftCore.hear_message.Goals as goal
 

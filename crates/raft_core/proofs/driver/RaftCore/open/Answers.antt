@@ -1,6 +1,6 @@
 use Rattle.std.proofs.Common.{◌≡◌, refl}
 use Rattle.std.specs.Prelude.{IfSome, None, Some, if◌then◌else◌, nat_eq}
-use Rattle.raft_packed_server.specs.proof_packed.Stores.{Packed}
+use Rattle.raft_peers.specs.proof_packed.Stores.{Packed}
 use Rattle.raft_core.proofs.Begun.{has_snapshot}
 use Rattle.raft_core.proofs.Copied.{given_by}
 use Rattle.raft_core.proofs.driver.RaftCore.open.Goals as goal

@@ -1,9 +1,9 @@
 use Rattle.std.proofs.Common.{◌∙◌, ◌≡◌, ap, subst, sym}
 use Rattle.raft_calls.specs.declared.message.Message.{Message}
-use Rattle.raft_packed_server.specs.proof_packed.Nodes.{PackedMessage}
-use Rattle.raft_packed_server.specs.proof_packed_servers.Servers.{PackedStep}
-use Rattle.raft_packed_server.specs.Views.{step_of}
-use Rattle.raft_core.specs.Reads.{with_heard}
+use Rattle.raft_peers.specs.proof_packed.Nodes.{PackedMessage}
+use Rattle.raft_peers.specs.proof_packed_servers.Servers.{PackedStep}
+use Rattle.raft_peers.specs.raft_packed_server.Views.{step_of}
+use Rattle.raft_reads.specs.Reads.{with_heard}
 use Rattle.raft_core.specs.Steps.{TakesStep, step_taking}
 use Rattle.raft_core.specs.Views.{CoreView}
 use Rattle.raft_core.proofs.Assembled.{takes_message}

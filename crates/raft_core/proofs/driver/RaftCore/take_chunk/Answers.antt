@@ -1,11 +1,11 @@
 use Rattle.std.proofs.Common.{◌≡◌, ◌∙◌, [], ◌∷◌, ◌++◌, List, ap, inl, inr, subst}
 use Rattle.raft_chunks.specs.Assembly.{taken}
 use Rattle.raft_chunks.specs.Chunks.{piece_of}
-use Rattle.raft_packed_server.proofs.Prepared.{none_there}
-use Rattle.raft_core.specs.declared.frame.PartReply.{PartReply}
-use Rattle.raft_core.specs.declared.output.Output.{Output}
-use Rattle.raft_core.specs.Frames.{answered}
-use Rattle.raft_core.specs.Parts.{IsWhole}
+use Rattle.raft_peers.proofs.raft_packed_server_proofs.Prepared.{none_there}
+use Rattle.raft_peers.specs.declared.frame.PartReply.{PartReply}
+use Rattle.raft_peers.specs.declared.output.Output.{Output}
+use Rattle.raft_peers.specs.Frames.{answered}
+use Rattle.raft_peers.specs.Parts.{IsWhole}
 use Rattle.raft_core.specs.Views.{CoreView}
 use Rattle.raft_core.proofs.Assembled.{completes_chunk, keeps_chunk}
 use Rattle.raft_core.proofs.driver.RaftCore.take_chunk.Goals as goal

@@ -4,7 +4,7 @@ use Rattle.raft_chunks.specs.declared.cursor.Chunk.{Chunk}
 use Rattle.raft_chunks.specs.Chunks.{piece_of}
 use Rattle.raft_chunks.specs.Form.{opened, piece}
 use Rattle.raft_core.proofs.Copied.{given_by}
-use Rattle.raft_core.proofs.Parting.{decoded}
+use Rattle.raft_peers.proofs.Parting.{decoded}
 use Rattle.raft_core.proofs.driver.RaftCore.take_part.Goals as goal
 
 pub returns-clause-ok : goal.returns-clause-ok

@@ -1,7 +1,7 @@
 use Rattle.std.proofs.Common.{List, ◌∙◌, ◌++◌, ap, map, refl, subst}
-use Rattle.raft_core.specs.declared.output.Output.{Output}
+use Rattle.raft_peers.specs.declared.output.Output.{Output}
 use Rattle.raft_core.specs.Calls.{AnswersOverdue, Ticks}
-use Rattle.raft_core.specs.Frames.{asked}
+use Rattle.raft_peers.specs.Frames.{asked}
 use Rattle.raft_core.specs.Views.{CoreView}
 use Rattle.raft_core.proofs.driver.RaftCore.tick.Goals as goal
 

@@ -1,7 +1,0 @@
-use Rattle.raft_core.proofs.Among.{retained}
-use Rattle.raft_core.proofs.parts.keep_of.Goals as goal
-
-pub returns : goal.returns
-returns c =
-    let f = c.retain.ensures.filtered in
-    retained f.0 c.args.outgoing.now.items c.retain.new.self.items f.4

@@ -1,6 +1,0 @@
-use Rattle.std.proofs.Common.{◌≡◌, take}
-use Rattle.raft_core.specs.Reads.{count_over}
-use Rattle.raft_core.proofs.reads.count_over.Given as goal
-
-abbrev pub invariant-loop-round : goal.invariant-loop-round
-invariant-loop-round l = l.most ≡ count_over l.index (take l.round-index l.rounds)
