@@ -254,7 +254,7 @@ module _ {S : Type 0} (app : Application S) (c : Codec S) (given : Given) (wf : 
       let o : (o : Outgoing) × IsGoing app c bag o × IsPartOf o x = part_sent app c inverse bag bytes p x from fits is e in
       let m : PackedMessage S = record { message = x.message; brought = t.snapshot } in
       let brings : packed_message app o.1.message ≡ m =
-      part_completes app c bag alike inverse x old.incoming t.comes moving.coming o.0 o.1 o.2 t.snapshot t.fits t.whole in
+      part_completes app c bag alike inverse x old.incoming t.comes moving.coming o.0 o.1 o.2 t.snapshot t.whole.0 t.whole.1 in
       took_message m t.others t.takes.to t.takes.takes t.takes.answers (ap (λ (v : CoreView S). v.id) t.takes.rest) o.1.message o.1.left brings
       (ap replies_of t.leaves)
       (λ h. subst (λ (o : List (Output S)). AreSent app c bag (frames_of o)) (sym t.leaves) (part_answered app c bag (reply_to x old t.comes) t.others h))

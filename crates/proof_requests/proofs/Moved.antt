@@ -1,6 +1,6 @@
 -- Snapshots that go out and come in parts, call by call.
 use Rattle.std.proofs.Common.{ℕ, ◌≡◌, ◌∙◌, inl, inr, ⊎_elim, List, [], ◌∷◌, ◌++◌, length, take, refl, sym, ap, subst}
-use Rattle.std.specs.Prelude.{Contains, Ok, Result}
+use Rattle.std.specs.Prelude.{Contains, Ok, Result, Some}
 use Rattle.std.specs.List.{AllByRecursion}
 use Rattle.raft_calls.specs.declared.message.Body.{Body}
 use Rattle.raft_calls.specs.declared.message.Body.TheVariants.{AppendReply, AppendRequest, SnapshotReply, SnapshotRequest, VoteReply, VoteRequest}
@@ -18,7 +18,7 @@ use Rattle.proof_packed.specs.Stores.{Application, Packed, packed}
 use Rattle.raft_core.specs.raft_packed_wire.declared.packet.SentPart.{SentPart}
 use Rattle.raft_core.specs.raft_packed_wire.Values.{kept}
 use Rattle.raft_core.proofs.raft_packed_wire_proofs.ValueLaws.{kept_is}
-use Rattle.raft_core.specs.raft_peers.Parts.{AreWhole, Comes, IsPartOf, Outgoing, assembled}
+use Rattle.raft_core.specs.raft_peers.Parts.{Comes, IsPartOf, Outgoing, assembled, handed_out}
 use Rattle.raft_core.specs.Views.{CoreView}
 use Rattle.proof_snapshots.specs.Laws.{entries_in}
 use Rattle.proof_requests.specs.Moving.{IsComing, IsGoing, IsMoving}
@@ -81,7 +81,7 @@ module _ {S : Type 0} (app : Application S) (c : Codec S) where
 
       -- what a part makes of what had come is a front; and if the snapshot is whole with it, it is that part's
       pub part_comes : (x : SentPart) (old : Assembled) (k : Comes x old) → IsComing app c bag old → (o : Outgoing) → IsGoing app c bag o
-          → IsPartOf o x → IsComing app c bag (assembled k) × ((all : List ℕ) → AreWhole k all → all ≡ o.bytes)
+          → IsPartOf o x → IsComing app c bag (assembled k) × ((all : List ℕ) → handed_out k ≡ Ok (Some all) → all ≡ o.bytes)
       part_comes x old k h o g q =
           let before : IsComing app c bag k.before =
           ⊎_elim (λ e. subst (IsComing app c bag) (sym e) h) (λ e. subst (IsComing app c bag) (sym e.0) (inl refl)) k.begun in
@@ -97,7 +97,7 @@ module _ {S : Type 0} (app : Application S) (c : Codec S) where
 
       -- then it is the snapshot that the part's message brings
       pub part_completes : IsCodec c → (x : SentPart) (old : Assembled) (k : Comes x old) → IsComing app c bag old → (o : Outgoing)
-          → (g : IsGoing app c bag o) → IsPartOf o x → (snapshot : Packed S) → (kept c).fits snapshot → AreWhole k ((kept c).bytes snapshot)
+          → (g : IsGoing app c bag o) → IsPartOf o x → (snapshot : Packed S) → (kept c).fits snapshot → handed_out k ≡ Ok (Some ((kept c).bytes snapshot))
           → packed_message app g.message ≡ record { message = x.message; brought = snapshot }
       part_completes inverse x old k h o g q snapshot fits whole =
           let bytes : (kept c).bytes snapshot ≡ (kept c).bytes (brought_by_body app g.message.body) =

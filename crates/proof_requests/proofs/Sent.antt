@@ -38,7 +38,7 @@ use Rattle.proof_clients.proofs.Slots.{here, there}
 use Rattle.proof_deeds.proofs.Promised.{one_of}
 use Rattle.proof_servers.specs.Servers.{Action, Flushes, Server, WaitingStep, after_actions, new_cluster}
 use Rattle.proof_requests.specs.Actions.{flushes}
-use Rattle.proof_requests.specs.Frames.{IsPacket, IsPartFrame, IsSent, frames_of}
+use Rattle.proof_requests.specs.Frames.{IsPacket, IsPartPacket, IsSent, frames_of}
 use Rattle.proof_requests.specs.Moving.{IsGoing}
 use Rattle.proof_requests.specs.Requests.{server_after}
 use Rattle.proof_requests.proofs.Left.{bag_more, bag_oldest}
@@ -127,7 +127,7 @@ module _ {S : Type 0} (app : Application S) (c : Codec S) where
     parts_sent : (start : ℕ) (o : Outgoing) → IsGoing app c bag o → (out : List (Output S)) → AreParts c start o out → AreSent (frames_of out)
     parts_sent start o g [] h = tt
     parts_sent start o g (x ∷ out) h =
-        let one : IsPartFrame app c bag (part_frame c start h.0.part) =
+        let one : IsPartPacket app c bag (part_frame c start h.0.part) =
         record { start = start; outgoing = o; going = g; part = h.0.part; is_part = h.0.is_part; fits = h.0.fits; frame = refl } in
         subst (λ (y : Output S). AreSent (frames_of (y ∷ out))) (sym h.0.leaves) (inr (inl one), parts_sent start o g out h.1)
 

@@ -32,7 +32,7 @@ module _ {S : Type 0} (app : Application S) (c : Codec S) (bag : List Message) w
     pub frame : bytes ≡ packet_frame c start packet
 
   -- the bytes are the frame of a packet with a part of the snapshot that such a message brings
-  pub record IsPartFrame (bytes : List ℕ) : Type 0 where
+  pub record IsPartPacket (bytes : List ℕ) : Type 0 where
     pub start : ℕ
     pub outgoing : Outgoing
     pub going : IsGoing app c bag outgoing
@@ -43,4 +43,4 @@ module _ {S : Type 0} (app : Application S) (c : Codec S) (bag : List Message) w
 
   -- so they are; or they are no packet: those begin with 0
   abbrev pub IsSent : List ℕ → Type 0
-  IsSent bytes = IsPacket bytes ⊎ (IsPartFrame bytes ⊎ (slice_get bytes 0 ≢ Some 0))
+  IsSent bytes = IsPacket bytes ⊎ (IsPartPacket bytes ⊎ (slice_get bytes 0 ≢ Some 0))

@@ -197,8 +197,7 @@ module _ {S : Type 0} (app : Application S) (c : Codec S) where
     completes out others new snapshot is_whole takes leaves = record {
       comes = record { before = before; begun = begun; piece = p; reads = reads };
       snapshot = snapshot;
-      fits = is_whole.0;
-      whole = is_whole.1;
+      whole = is_whole;
       others = others;
       takes = subst (λ (v : CoreView S). TakesMessage app (record { message = x.message; brought = snapshot }) v others new) becomes takes;
       leaves = leaves ∙ ap (λ (r : PartReply). answered r ∷ others) tells;

@@ -56,7 +56,7 @@ use Rattle.raft_peers.specs.Frames.{IsFrame, answered, asked, granted}
 use Rattle.raft_core.specs.Outputs.{lost_left, lost_replies, overdue_left, overdue_replies, reads_out, replies_out, said_outputs}
 use Rattle.raft_peers.specs.Sends.{Sends}
 use Rattle.raft_core.specs.Outputs.{settled_all}
-use Rattle.raft_peers.specs.Parts.{AreParts, AreWhole, Comes, Outgoing, assembled}
+use Rattle.raft_peers.specs.Parts.{AreParts, Comes, IsWhole, Outgoing, assembled, handed_out}
 use Rattle.raft_reads.specs.Reads.{ReadsView, failed_left, failed_replies, is_free, no_reads, read_left, read_replies, refused_left}
 use Rattle.raft_core.specs.Outputs.{handed_after}
 use Rattle.raft_reads.specs.Reads.{refused_replies, with_heard, with_left, with_round}
@@ -176,8 +176,7 @@ reply_to x old k = record { from = old.id; to = x.message.from; cursor = cursor_
 pub record KeepsPart {S : Type 0} (c : Codec S) (x : SentPart) (old : CoreView S) (out : List (Output S)) (new : CoreView S) : Type 0 where
   pub to : x.message.to ≡ old.id
   pub comes : Comes x old.incoming
-  -- the snapshot isn't whole yet, or the part doesn't fit, or no snapshot has these bytes
-  pub waits : (p : Packed S) → (kept c).fits p → AreWhole comes ((kept c).bytes p) → ⊥
+  pub waits : IsWhole c (handed_out comes) None
   pub rest : new ≡ record old { incoming = assembled comes }
   pub leaves : out ≡ answered (reply_to x old comes) ∷ []
 
@@ -186,8 +185,7 @@ pub record CompletesSnapshot {S : Type 0} (app : Application S) (c : Codec S) (x
     (new : CoreView S) : Type 0 where
   pub comes : Comes x old.incoming
   pub snapshot : Packed S
-  pub fits : (kept c).fits snapshot
-  pub whole : AreWhole comes ((kept c).bytes snapshot)
+  pub whole : IsWhole c (handed_out comes) (Some snapshot)
   pub others : List (Output S)
   pub takes : TakesMessage app (record { message = x.message; brought = snapshot }) (record old { incoming = assembled comes }) others new
   pub leaves : out ≡ answered (reply_to x old comes) ∷ others

@@ -153,7 +153,7 @@ fn plan<M: Machine>(
     let Some(engine) = engine_of(server) else {
         return Ok(Plan::nothing(alloc));
     };
-    let is_held = length.may_wait() && policy.holds_build(engine, clock);
+    let is_held = length.lets_builds_wait() && policy.holds_build(engine, clock);
     let ends_build = is_building(server) && !is_held && length.ends_build();
     policy.tick(engine, clock, random, asked_at, ends_build)
 }

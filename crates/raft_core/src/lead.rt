@@ -144,7 +144,12 @@ impl Lead {
     }
 
     /// Whether a target that may still answer lacks more entries than are kept behind a snapshot: what it wants next would be purged.
-    pub fn is_wanted(&self, engine: &Engine<WorldConfig>, clock: &Clock, patience: u64) -> bool {
+    pub fn has_lagging_target(
+        &self,
+        engine: &Engine<WorldConfig>,
+        clock: &Clock,
+        patience: u64,
+    ) -> bool {
         let (Some(leader), Some(last)) = (&engine.leader, engine.state.last_log_id()) else {
             return false;
         };

@@ -46,7 +46,7 @@ impl LogLength {
     }
 
     /// Whether the end of a build may wait, while the log grows: it isn't long, and builds may still end for as many bytes more.
-    pub fn may_wait(&self) -> bool {
+    pub fn lets_builds_wait(&self) -> bool {
         !self.is_long() && self.end <= (MAX_FRAME / 8) as u64
     }
 

@@ -82,7 +82,8 @@ impl Policy {
 
     /// Whether a snapshot's build isn't to end yet: a member that is there wants the entries that would be purged.
     pub fn holds_build(&self, engine: &Engine<WorldConfig>, clock: &Clock) -> bool {
-        self.lead.is_wanted(engine, clock, self.config.patience)
+        self.lead
+            .has_lagging_target(engine, clock, self.config.patience)
     }
 
     /// These members are wanted, while this server leads.

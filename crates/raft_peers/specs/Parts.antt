@@ -58,7 +58,7 @@ module _ {S : Type 0} (c : Codec S) where
   abbrev pub AreParts : ℕ → Outgoing → List (Output S) → Type 0
   AreParts start o out = AllByRecursion (LeavesAsPart start o) out
 
-  -- the snapshot that is whole by the answer to a chunk; none if it isn't, or if no snapshot has these bytes
+  -- the snapshot whose bytes are handed out at a chunk; none if it isn't whole, or the chunk doesn't fit, or no snapshot has these bytes
   abbrev pub IsWhole : Result (Option (List ℕ)) Refusal → Option (Packed S) → Type 0
   IsWhole answer (Some p) = (kept c).fits p × (answer ≡ Ok (Some ((kept c).bytes p)))
   IsWhole answer None = (p : Packed S) → (kept c).fits p → answer ≡ Ok (Some ((kept c).bytes p)) → ⊥
@@ -74,9 +74,9 @@ pub record Comes (x : SentPart) (old : Assembled) : Type 0 where
   pub begun : IsBefore piece.at.title old before
   pub reads : opened chunk x.chunk ≡ Ok piece
 
--- what is there then; and the bytes of the snapshot, if all are
+-- what is there then; and what is handed out, the bytes of the snapshot if all are there
 abbrev pub assembled : {x : SentPart} {old : Assembled} → Comes x old → Assembled
 assembled k = (taken k.before k.piece).1
 
-abbrev pub AreWhole : {x : SentPart} {old : Assembled} → Comes x old → List ℕ → Type 0
-AreWhole k bytes = (taken k.before k.piece).0 ≡ Ok (Some bytes)
+abbrev pub handed_out : {x : SentPart} {old : Assembled} → Comes x old → Result (Option (List ℕ)) Refusal
+handed_out k = (taken k.before k.piece).0
