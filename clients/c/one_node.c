@@ -54,8 +54,8 @@ int main(void) {
                                       512 << 20, 64 << 20, 1ull << 32, 1 << 20, 1 << 20, 2 << 20, 1024, 1000, 0};
     static const uint64_t now[] = {1700000000000};
     static const char request[] = "SET a 1\r\nINCR a\r\n";
-    void *node;
-    if (wachelpo_version() != 2 || wachelpo_node(&node) != 0) return 1;
+    static void *node; /* valid until the program ends */
+    if (wachelpo_version() != WACHELPO_SERVICE_VERSION || wachelpo_node(&node) != 0) return 1;
     number(2), number(7), number(1);                    /* version, cluster, id */
     number(1), number(1), text("127.0.0.1"), number(6379); /* one node, and where clients reach it */
     number(1), number(1);                               /* the first voters */

@@ -3,9 +3,9 @@
  * A node is one server without input and output. Its caller hands in what comes (frames of peers, bytes of clients, time, what is on
  * disk) by wachelpo_call, reads what that puts out by wachelpo_read, and does it, in its order.
  *
- * Memory. A node belongs to the library, and is valid until the program ends. wachelpo_close frees all that it holds but some hundred
- * bytes. The library allocates through liblibc_c.a of the Rattle kit (in its folder c/), which calls the program's malloc, realloc and
- * free: the three belong to one allocator, and align to 16 bytes.
+ * Memory. A node belongs to the library, and is valid until the program ends. wachelpo_close frees all but the node's own 4.4 KB, which
+ * another service can have. The library allocates through liblibc_c.a of the Rattle kit (in its folder c/), which calls the program's
+ * malloc, realloc and free: the three belong to one allocator, and align to 16 bytes.
  *
  * Threads. A node is given to one call at a time, on the thread that made it; not from a signal handler, nor in the forked child of a
  * process with threads.
