@@ -35,6 +35,10 @@ const FIRST: usize = 4;
 
 /// How often it looks for what is late.
 const LOOK: Duration = Duration::from_millis(20);
+/// While so few clients are connected, it looks for more for so long before it waits: for a client that is alone, to wake up takes longer than
+/// what is to be done.
+const FEW: usize = 2;
+const AWAKE: Duration = Duration::from_micros(200);
 /// How many bytes are read at a time, and of one connection in a round.
 const CHUNK: usize = 64 << 10;
 const SHARE: usize = 1 << 20;
@@ -225,6 +229,8 @@ pub(crate) struct Sockets {
     dirty: Vec<usize>,
     chunk: Vec<u8>,
     looked: Instant,
+    /// When something happened last.
+    happened: Instant,
 }
 
 /// How many files the process may have open, after it has asked for as many as it may.
@@ -313,6 +319,7 @@ impl Sockets {
             dirty: Vec::new(),
             chunk: vec![0; CHUNK],
             looked: now,
+            happened: now,
         };
         Ok((sockets, waker))
     }
@@ -324,10 +331,11 @@ impl Sockets {
         loop {
             let has_ready = !self.ready.is_empty() && !self.is_congested;
             let is_behind = has_ready || !self.arrivals.is_empty() || !self.dirty.is_empty();
+            let stays_awake = !is_behind && !self.is_congested && self.stays_awake();
             let patience = match (is_behind, self.is_congested) {
                 (true, _) => Duration::ZERO,
                 (false, true) => Duration::from_millis(1),
-                (false, false) if self.may_idle => Duration::ZERO,
+                (false, false) if self.may_idle || stays_awake => Duration::ZERO,
                 (false, false) => LOOK,
             };
             if let Err(error) = self.poll.poll(&mut events, Some(patience)) {
@@ -335,6 +343,11 @@ impl Sockets {
                     log::error!("sockets: {error}");
                     thread::sleep(PAUSE);
                 }
+                continue;
+            }
+            if !events.is_empty() {
+                self.happened = Instant::now();
+            } else if stays_awake && !self.may_idle {
                 continue;
             }
             // also while clients are waited for that were just answered
@@ -352,6 +365,11 @@ impl Sockets {
                 self.look();
             }
         }
+    }
+
+    /// Whether it looks for more before it waits.
+    fn stays_awake(&self) -> bool {
+        (1..=FEW).contains(&self.clients.len()) && self.happened.elapsed() < AWAKE
     }
 
     fn outbox(&self) -> MutexGuard<'_, Outbox> {
