@@ -222,7 +222,6 @@ fn begin_short(name: &str, count: u64) -> Cluster {
 }
 
 #[test]
-#[ignore = "the library must begin new logs"]
 fn a_log_stays_short_and_all_is_there_after_kills() {
     let mut cluster = begin_short("bounded", 1);
     for (round, value) in (1..=2).map(|round| (round, round.to_string().repeat(1000))) {
@@ -251,7 +250,6 @@ fn has_new_log(folder: &Path) -> bool {
 }
 
 #[test]
-#[ignore = "the library must begin new logs"]
 fn nodes_that_have_begun_new_logs_are_admitted_again() {
     let mut cluster = begin_short("anew", 3);
     let mut count = 0;
