@@ -794,6 +794,7 @@ impl<M: Machine> RaftCore<M> {
         let sender = Sender {
             start: self.start,
             most: self.peers.part_bytes,
+            room: self.log.room(),
         };
         Ok(leave(
             self.alloc,

@@ -50,6 +50,11 @@ impl LogLength {
         !self.is_long() && self.end <= (MAX_FRAME / 8) as u64
     }
 
+    /// For how many bytes of a snapshot there is room from the start: as many as the log has, unless that is too long for builds.
+    pub fn room(&self) -> usize {
+        self.end.min((MAX_FRAME / 4) as u64) as usize
+    }
+
     /// The log ends there.
     pub fn note_end(&mut self, end: u64) {
         let came = end.saturating_sub(self.end);

@@ -12,7 +12,7 @@ ghost use Rattle.raft_packed_server.specs.Logs.{logged_by};
 use crate::batch::Written;
 use crate::records::push_payload;
 use crate::serving::Serving;
-use raft_frames::{LogId, PushError, Tail};
+use raft_frames::{LogId, MAX_FRAME, PushError, Tail};
 use raft_packed_wire::raft_packed::Machine;
 use raft_packed_wire::write_checkpoint;
 use std::alloc::{AllocError, Global};
@@ -24,12 +24,14 @@ struct NewLog {
     tail: Tail,
 }
 
-/// A checkpoint of the node's store, while as many moments are reserved, as bytes.
+/// A checkpoint of the node's store, while as many moments are reserved, as bytes. It has room for as many as the old log has, but
+/// not for all of a long one, since a server may have less memory than that.
 fn checkpoint_bytes<M: Machine>(alloc: Global, serving: &Serving<M>) -> Result<Vec<u8>, AllocError>
     ensures fits { IfOk result (λ bytes. (logged_by M.codec).fits (checkpoint_of serving.now)) }
     ensures bytes { IfOk result (λ bytes. bytes.items ≡ bytes_of (logged_by M.codec) (first_batch serving.now)) }
 {
-    let mut bytes = Vec::new(alloc);
+    let room = serving.tail.position.min((MAX_FRAME / 4) as u64);
+    let mut bytes = Vec::with_capacity(alloc, room as usize)?;
     write_checkpoint(&mut bytes, serving.reserved, serving.node.store())?;
     Ok(bytes)
 }

@@ -53,15 +53,16 @@ pub fn origin_of(message: &Message) -> Option<Origin> {
     }
 }
 
-/// The bytes of a snapshot.
+/// The bytes of a snapshot, with room for so many from the start.
 pub fn snapshot_bytes<M: Machine>(
     alloc: Global,
+    room: usize,
     snapshot: &Packed<M>,
 ) -> Result<Vec<u8>, AllocError>
     ensures fits { OnOk result ((kept M.codec).fits snapshot.now) }
     ensures bytes { IfOk result (λ bytes. bytes.items ≡ (kept M.codec).bytes snapshot.now) }
 {
-    let mut bytes = Vec::new(alloc);
+    let mut bytes = Vec::with_capacity(alloc, room)?;
     write_packed(&mut bytes, snapshot)?;
     Ok(bytes)
 }

@@ -35,13 +35,15 @@ fn send<M: Machine>(
     push(Output::Send { to, bytes }, outputs)
 }
 
-/// From where a server sends, and how much at a time.
+/// From where a server sends, how much at a time, and for how much there is room.
 #[derive(Clone, Copy)]
 pub struct Sender {
     /// The moment of its start.
     pub start: u64,
     /// The most bytes of a snapshot that leave in a frame.
     pub most: usize,
+    /// For how many bytes of a snapshot there is room from the start.
+    pub room: usize,
 }
 
 /// The snapshot that a request to install brings.
@@ -54,10 +56,10 @@ fn brought<M: Machine>(message: &PackedMessage<M>) -> Option<&Packed<M>>
     }
 }
 
-/// A message as it goes out in parts, if it brings a snapshot of more than so many bytes.
+/// A message as it goes out in parts, if it brings a snapshot of more bytes than leave in a frame.
 fn outgoing<M: Machine>(
     alloc: Global,
-    most: usize,
+    sender: Sender,
     message: &PackedMessage<M>,
 ) -> Result<Option<Outgoing>, AllocError>
     ensures { IfOk result (λ found. IfSome found (λ o. (o ≡ outgoing_of M.codec message.now)
@@ -66,8 +68,8 @@ fn outgoing<M: Machine>(
     let Some(snapshot) = brought(message) else {
         return Ok(None);
     };
-    let bytes = snapshot_bytes(alloc, snapshot)?;
-    if bytes.len() <= most {
+    let bytes = snapshot_bytes(alloc, sender.room, snapshot)?;
+    if bytes.len() <= sender.most {
         return Ok(None);
     }
     let copied = message.message.copy(alloc)?;
@@ -87,7 +89,7 @@ fn send_one<M: Machine>(
     ensures going { OnOk result ((o : Going) → Contains going.new.items o
         → Contains going.old.items o ⊎ IsBegun M.application M.codec sender.start (message ∷ []) o) }
 {
-    match outgoing(alloc, sender.most, &message)? {
+    match outgoing(alloc, sender, &message)? {
         Some(one) => begin(alloc, sender.start, sender.most, one, going, outputs),
         None => send(alloc, sender.start, SentMessage::new(message), outputs),
     }

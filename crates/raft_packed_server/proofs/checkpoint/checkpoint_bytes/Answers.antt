@@ -14,7 +14,7 @@ pub returns-clause-bytes : goal.returns-clause-bytes
 returns-clause-bytes g c =
     let codec = logged_by g.M.Machine.codec in
     let v = c.args.serving.now in
-    let old = c.new-bytes.result.items in
+    let old = c.in_ok-bytes.bytes.items in
     let new = c.write_checkpoint.new.out.items in
     let none : old ≡ [] = search rules in
     one_record old new (codec.bytes (checkpoint_of v)) none
