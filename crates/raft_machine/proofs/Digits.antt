@@ -260,9 +260,6 @@ pub record Writes (n cursor left worth : ℕ) (key : List ℕ) : Type 0 where
   pub below : left < 256 ^ n
   pub is : worth ≡ 256 ^ n / 256
 
-pub writes_start : (cursor worth : ℕ) (key : List ℕ) → cursor < 2 ^ 64 → worth ≡ 2 ^ 56 → key ≡ [] → Writes 8 cursor cursor worth key
-writes_start cursor worth key h e i = subst (Writes 8 cursor cursor worth) (sym i) (let w : Writes 8 cursor cursor worth [] = record { bytes = refl; below = h; is = e } in w)
-
 pub writes_done : (n cursor left worth : ℕ) (key : List ℕ) → Writes n cursor left worth key → left ≡ 0 → key ≡ first_at cursor
 writes_done n cursor left worth key h e = sym (append-nil key) ∙ ap (λ (k : List ℕ). key ++ k) (sym (first_zero n left e)) ∙ h.bytes
 

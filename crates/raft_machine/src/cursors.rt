@@ -55,7 +55,6 @@ pub(crate) fn heads(key: &[u8]) -> (u64, u64)
 }
 
 /// The first of the keys whose cursors aren't below this one.
-#[tactic(auto, using(crate::proofs::Digits::writes_start, crate::proofs::Digits::writes_done, crate::proofs::Digits::writes_end, crate::proofs::Digits::writes_divides, crate::proofs::Digits::writes_byte))]
 pub(crate) fn first_at(alloc: Global, cursor: u64) -> Result<Vec<u8>, AllocError>
     ensures { IfOk result (λ key. key.items ≡ first_at cursor) }
 {
