@@ -29,7 +29,6 @@ const STEP: u64 = 10;
 const ROUNDS: u64 = 4;
 
 /// Servers, their disks, all that ever left a server for others, and what clients asked for and were told.
-#[derive(Drop)]
 pub struct Cluster<M: StateMachine> {
     alloc: Global,
     given: Given,
@@ -41,6 +40,22 @@ pub struct Cluster<M: StateMachine> {
     dice: Dice,
     /// Whether a byte on a disk was changed by hand, or a packet of a stranger was taken.
     damaged: bool,
+}
+
+// Written out, so that it is proved once: a derived one is laid out wherever a cluster may be dropped.
+impl<M: StateMachine> Drop for Cluster<M> {
+    fn drop(self) {
+        let Cluster {
+            alloc: _,
+            given: _,
+            config: _,
+            machines: _,
+            network: _,
+            told: _,
+            dice: _,
+            damaged: _,
+        } = self;
+    }
 }
 
 /// The place of the server with this id.

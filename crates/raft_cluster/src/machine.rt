@@ -23,7 +23,6 @@ use std::alloc::{AllocError, Global};
 const CLUSTER: u64 = 1;
 
 /// A server, while it is open, and its disk, which it knows only by what it reads when it opens.
-#[derive(Drop)]
 pub struct Machine<M: StateMachine> {
     id: u64,
     core: Option<RaftCore<M>>,
@@ -32,6 +31,19 @@ pub struct Machine<M: StateMachine> {
     written: Option<Handed>,
     /// Where the last bytes that were flushed begin.
     last: usize,
+}
+
+// Written out, so that it is proved once: a derived one is laid out wherever a machine may be dropped.
+impl<M: StateMachine> Drop for Machine<M> {
+    fn drop(self) {
+        let Machine {
+            id: _,
+            core: _,
+            disk: _,
+            written: _,
+            last: _,
+        } = self;
+    }
 }
 
 /// Bytes that a server has handed out for its log's end, and which end it then has.

@@ -65,7 +65,6 @@ struct Clients {
 }
 
 /// A server that receives messages, ticks and requests (openraft's `RaftCore`), without input and output.
-#[derive(Drop)]
 pub struct RaftCore<M: Machine> {
     alloc: Global,
     id: u64,
@@ -88,6 +87,30 @@ pub struct RaftCore<M: Machine> {
     /// The messages whose snapshots go out in parts: one for each server.
     outgoing: Vec<Outgoing>,
     incoming: Incoming,
+}
+
+// Written out, so that it is proved once: a derived one is laid out wherever a server may be dropped.
+impl<M: Machine> Drop for RaftCore<M> {
+    fn drop(self) {
+        let RaftCore {
+            alloc: _,
+            id: _,
+            start: _,
+            limits: _,
+            peers: _,
+            request_timeout: _,
+            clock: _,
+            server: _,
+            policy: _,
+            clients: _,
+            executed: _,
+            writing: _,
+            unwritten: _,
+            log: _,
+            outgoing: _,
+            incoming: _,
+        } = self;
+    }
 }
 
 impl<M: Machine> Model for RaftCore<M> {

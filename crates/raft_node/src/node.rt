@@ -65,12 +65,23 @@ impl Streams {
 }
 
 /// What a node has while it runs, and loses when it stops.
-#[derive(Debug, Drop)]
+#[derive(Debug)]
 pub struct Running {
     pub engine: Engine<WorldConfig>,
     pub streams: Streams,
     /// The entries for the next snapshot, while it is built.
     pub noted: Option<Items<Entry>>,
+}
+
+// Written out, so that it is proved once: a derived one is laid out wherever a running node may be dropped.
+impl Drop for Running {
+    fn drop(self) {
+        let Running {
+            engine: _,
+            streams: _,
+            noted: _,
+        } = self;
+    }
 }
 
 impl Running {
@@ -87,13 +98,25 @@ impl Running {
 }
 
 /// A node: its store, which survives a stop, and what it has while it runs.
-#[derive(Debug, Drop)]
+#[derive(Debug)]
 pub struct Node {
     id: u64,
     pub(crate) store: Store,
     pub(crate) running: Option<Running>,
     /// The greatest moment of its events, in milliseconds.
     moment: u64,
+}
+
+// Written out, so that it is proved once: a derived one is laid out wherever a node may be dropped.
+impl Drop for Node {
+    fn drop(self) {
+        let Node {
+            id: _,
+            store: _,
+            running: _,
+            moment: _,
+        } = self;
+    }
 }
 
 impl Model for Node {

@@ -48,10 +48,19 @@ use std::alloc::{AllocError, Global};
 use std::marker::Model;
 
 /// What a node has while it runs, and loses when it stops, beside what is noted for the next snapshot.
-#[derive(Drop)]
 pub(crate) struct Running {
     pub(crate) engine: Engine<WorldConfig>,
     pub(crate) streams: Streams,
+}
+
+// Written out, so that it is proved once: a derived one is laid out wherever a running node may be dropped.
+impl Drop for Running {
+    fn drop(self) {
+        let Running {
+            engine: _,
+            streams: _,
+        } = self;
+    }
 }
 
 impl Running {
@@ -68,13 +77,24 @@ impl Running {
 
 /// A node: its store, which survives a stop, and what it has while it runs. What it has noted for the next snapshot, while that is built,
 /// stands in the store, and counts while it runs.
-#[derive(Drop)]
 pub struct Node<M: Machine> {
     id: u64,
     pub(crate) store: PackedStore<M>,
     pub(crate) running: Option<Running>,
     /// The greatest moment of its events, in milliseconds.
     moment: u64,
+}
+
+// Written out, so that it is proved once: a derived one is laid out wherever a node may be dropped.
+impl<M: Machine> Drop for Node<M> {
+    fn drop(self) {
+        let Node {
+            id: _,
+            store: _,
+            running: _,
+            moment: _,
+        } = self;
+    }
 }
 
 impl<M: Machine> Model for Node<M> {

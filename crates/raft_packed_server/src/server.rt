@@ -30,12 +30,22 @@ use std::alloc::{AllocError, Global};
 use std::marker::Model;
 
 /// A server without input and output: a node, the bytes for its log's end, and what waits until they are on disk.
-#[derive(Drop)]
 pub struct Server<M: Machine> {
     alloc: Global,
     given: Given,
     /// None once it has stopped.
     serving: Option<Serving<M>>,
+}
+
+// Written out, so that it is proved once: a derived one is laid out wherever a server may be dropped.
+impl<M: Machine> Drop for Server<M> {
+    fn drop(self) {
+        let Server {
+            alloc: _,
+            given: _,
+            serving: _,
+        } = self;
+    }
 }
 
 impl<M: Machine> Model for Server<M> {

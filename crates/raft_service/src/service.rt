@@ -37,13 +37,25 @@ use std::alloc::{AllocError, Global};
 const AT_ONCE: usize = 8;
 
 /// A replicated key-value service at one server, without input and output.
-#[derive(Drop)]
 pub struct Service {
     alloc: Global,
     id: LogId,
     intake: Intake,
     executor: Executor,
     clients: Clients,
+}
+
+// Written out, so that it is proved once: a derived one is laid out wherever a service may be dropped.
+impl Drop for Service {
+    fn drop(self) {
+        let Service {
+            alloc: _,
+            id: _,
+            intake: _,
+            executor: _,
+            clients: _,
+        } = self;
+    }
 }
 
 /// A service that was opened on its log.
