@@ -315,7 +315,8 @@ impl Metrics {
             }
         }
         writeln!(out, "<table>")?;
-        for (_, help, value) in self.gauges() {
+        let gauges = self.gauges().into_iter().filter(|(name, ..)| !HEADED.contains(name));
+        for (_, help, value) in gauges {
             writeln!(out, "<tr><td>{help}</td><td>{value}</td></tr>")?;
         }
         for (_, help, counter) in self.counters() {
@@ -340,6 +341,9 @@ impl Metrics {
         out
     }
 }
+
+/// What the page says above its table.
+const HEADED: [&str; 3] = ["role", "leader", "term"];
 
 const STYLE: &str =
     "body{font:16px sans-serif;margin:2em}td{padding:.2em 1em;border-bottom:1px solid #ddd}td+td{text-align:right}";
