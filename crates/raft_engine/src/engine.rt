@@ -60,7 +60,6 @@ use raft_state::{
 use std::alloc::{AllocError, Global};
 
 /// A Raft node without I/O: its calls change its state and queue what the runtime has to do (openraft's `Engine`).
-#[derive(Drop)]
 #[derive_where(Debug; C, C::Entry, C::SnapshotData)]
 pub struct Engine<C: RaftTypeConfig> {
     /// The settings.
@@ -75,6 +74,20 @@ pub struct Engine<C: RaftTypeConfig> {
     pub candidate: Option<Candidate<C, Joint<C::NodeId>>>,
     /// The commands for the runtime.
     pub output: EngineOutput<C>,
+}
+
+// Written out, so that it is proved once: a derived one is laid out wherever an engine may be dropped.
+impl<C: RaftTypeConfig> Drop for Engine<C> {
+    fn drop(self) {
+        let Engine {
+            config: _,
+            state: _,
+            seen_greater_log: _,
+            leader: _,
+            candidate: _,
+            output: _,
+        } = self;
+    }
 }
 
 impl<C: RaftTypeConfig> Engine<C> {
@@ -121,6 +134,21 @@ impl<C: RaftTypeConfig> Engine<C> {
             ..EngineConfig::default()
         };
         Engine::new(alloc, RaftState::empty(alloc), config)
+    }
+
+    /// The state of an engine that is no more: another may start with it.
+    pub fn into_state(self) -> RaftState<C::NodeId, C::Node>
+        ensures { result ≡ self.state }
+    {
+        let Engine {
+            config: _,
+            state: kept,
+            seen_greater_log: _,
+            leader: _,
+            candidate: _,
+            output: _,
+        } = self;
+        kept
     }
 
     /// Appends the first entry of a cluster, under the first log id, and starts an election. The entry carries a

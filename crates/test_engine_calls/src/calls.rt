@@ -87,7 +87,7 @@ fn restarted(alloc: Global, engine: Engine<Small>, committed: bool) -> Result<En
         bail!("the engine is spent");
     }
     let id = engine.config.id;
-    let mut state = engine.state;
+    let mut state = engine.into_state();
     state.vote.committed = committed;
     state.time = None;
     state.role = ServerState::Learner;
