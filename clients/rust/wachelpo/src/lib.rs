@@ -92,3 +92,10 @@ fn random_bytes(bytes: &mut [u8]) -> io::Result<()> {
         Err(io::Error::last_os_error())
     }
 }
+
+/// A number that nobody can tell before.
+fn random() -> io::Result<u64> {
+    let mut bytes = [0; 8];
+    random_bytes(&mut bytes)?;
+    Ok(u64::from_le_bytes(bytes))
+}

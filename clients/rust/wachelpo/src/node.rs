@@ -128,7 +128,7 @@ impl Node {
             .name("log".into())
             .spawn(move || write_all(&shared, &to_write, &inbox))
             .map_err(Error::Io)?;
-        let random = seed().map_err(Error::Io)?;
+        let random = crate::random().map_err(Error::Io)?;
         let (service, clock, inbox, metrics) = (self.service, self.clock, self.inbox, self.metrics);
         let longest = self.heartbeat.max(TICK);
         let runs = move || {
@@ -230,13 +230,6 @@ impl Handle {
     pub fn status(&self) -> Result<Status, Error> {
         self.ask(Request::Status)
     }
-}
-
-/// A number that nobody can tell before.
-fn seed() -> std::io::Result<u64> {
-    let mut bytes = [0; 8];
-    crate::random_bytes(&mut bytes)?;
-    Ok(u64::from_le_bytes(bytes))
 }
 
 /// What bytes do to the log.

@@ -193,6 +193,24 @@ fn a_log_with_other_bytes_is_refused_or_lacks_its_last_record() {
     }
 }
 
+#[test]
+fn a_log_that_was_lost_is_not_a_new_nodes() {
+    let mut cluster = begin("lost", 1);
+    set(&cluster, "a", "1");
+    cluster.kill(1).unwrap();
+    let (path, _) = last_of(&cluster.folder(1));
+    let whole = fs::read(&path).unwrap();
+    fs::write(&path, vec![0; whole.len()]).unwrap();
+    for _ in 0..2 {
+        cluster.start(1).unwrap();
+        let text = refusal(&mut cluster, 1);
+        assert!(text.contains("the log has nothing, and had something"), "{text}");
+    }
+    fs::write(&path, whole).unwrap();
+    cluster.start(1).unwrap();
+    assert_eq!(get(&cluster, "a").as_deref(), Some("1"));
+}
+
 /// Sets keys and counts at others by turns, so many times in all.
 fn write_by_turns(cluster: &Cluster, writes: usize, value: &str) {
     let keys: Vec<(String, String)> = (0..100).map(|key| (format!("k{key}"), format!("n{key}"))).collect();

@@ -28,7 +28,7 @@ impl Presence {
 /// The folder of a node, which no other process uses meanwhile.
 ///
 /// It has `identity` (whose it is, and how often it was started), `peers` (which folders other nodes have), the files of the log
-/// ([`Segments`]), and `lock`.
+/// ([`Segments`]), `begun` (once the log had anything), and `lock`.
 pub struct Folder {
     path: PathBuf,
     presence: Presence,
@@ -47,10 +47,22 @@ fn replace(folder: &Path, name: &str, text: &str) -> io::Result<()> {
     File::open(folder)?.sync_all()
 }
 
-fn random() -> io::Result<u64> {
-    let mut bytes = [0; 8];
-    crate::random_bytes(&mut bytes)?;
-    Ok(u64::from_le_bytes(bytes))
+/// Makes a folder, and those above it: once this returns, all of them are there durably.
+fn make(path: &Path) -> io::Result<()> {
+    let is_new = |it: &&Path| !it.as_os_str().is_empty() && !it.exists();
+    let above = path.ancestors().skip(1);
+    let made = above.clone().take_while(is_new).count();
+    fs::create_dir_all(path)?;
+    for folder in above.take(made + 1) {
+        // (above a name alone is where the process stands)
+        let folder = if folder.as_os_str().is_empty() {
+            Path::new(".")
+        } else {
+            folder
+        };
+        File::open(folder)?.sync_all()?;
+    }
+    Ok(())
 }
 
 /// What the file `identity` says.
@@ -124,50 +136,57 @@ fn text_of(path: &Path, name: &str) -> Result<Option<String>, FolderError> {
     }
 }
 
+/// Locks a folder, as long as the file is open.
+fn lock(path: &Path) -> Result<File, FolderError> {
+    let failed = |error| FolderError::Io(path.to_path_buf(), error);
+    let lock = OpenOptions::new()
+        .create(true)
+        .truncate(false)
+        .write(true)
+        .open(path.join("lock"))
+        .map_err(failed)?;
+    match lock.try_lock() {
+        Ok(()) => Ok(lock),
+        Err(TryLockError::WouldBlock) => Err(FolderError::Locked(path.to_path_buf())),
+        Err(TryLockError::Error(error)) => Err(failed(error)),
+    }
+}
+
 impl Folder {
     /// Makes the folder of a new node: one that isn't there, or is empty. A folder that has lost its files, or another one for the
     /// same node, isn't a new node's: what the node has promised is lost with it, so it gets a new id.
     pub fn create(path: &Path, node: NodeId, cluster: &str) -> Result<(), FolderError> {
         let failed = |error| FolderError::Io(path.to_path_buf(), error);
-        fs::create_dir_all(path).map_err(failed)?;
+        make(path).map_err(failed)?;
         if fs::read_dir(path).map_err(failed)?.next().is_some() {
             return Err(FolderError::NotEmpty(path.to_path_buf()));
         }
         let identity = Identity {
             node,
             cluster: cluster.to_string(),
-            folder: random().map_err(failed)?,
+            folder: crate::random().map_err(failed)?,
             starts: 0,
         };
-        File::create(path.join("log.000000")).map_err(failed)?;
-        replace(path, "identity", &identity.to_text()).map_err(failed)?;
-        match path.parent() {
-            Some(above) if above.is_dir() => File::open(above).and_then(|above| above.sync_all()).map_err(failed),
-            _ => Ok(()),
-        }
+        // (of two that make it at once one fails here: the other one's log may have something already)
+        File::create_new(path.join("log.000000")).map_err(failed)?;
+        replace(path, "identity", &identity.to_text()).map_err(failed)
     }
 
     /// Opens the folder of a node, and counts its start.
     pub fn open(path: &Path, node: NodeId, cluster: &str) -> Result<Self, FolderError> {
         let failed = |error| FolderError::Io(path.to_path_buf(), error);
-        let Some(text) = text_of(path, "identity")? else {
-            return Err(FolderError::Empty(path.to_path_buf()));
-        };
+        let is_empty = || FolderError::Empty(path.to_path_buf());
+        // (no file is made in a folder that isn't a node's)
+        if !path.join("identity").try_exists().map_err(failed)? {
+            return Err(is_empty());
+        }
+        // first, since another process that has it counts its start meanwhile
+        let lock = lock(path)?;
+        let text = text_of(path, "identity")?.ok_or_else(is_empty)?;
         let identity = Identity::of_text(&text).ok_or_else(|| damaged(path, "identity"))?;
         if (identity.node, &identity.cluster[..]) != (node, cluster) {
             let whose = format!("node {} of cluster {}", identity.node, identity.cluster);
             return Err(FolderError::Foreign(path.to_path_buf(), whose));
-        }
-        let lock = OpenOptions::new()
-            .create(true)
-            .truncate(false)
-            .write(true)
-            .open(path.join("lock"))
-            .map_err(failed)?;
-        match lock.try_lock() {
-            Ok(()) => {}
-            Err(TryLockError::WouldBlock) => return Err(FolderError::Locked(path.to_path_buf())),
-            Err(TryLockError::Error(error)) => return Err(failed(error)),
         }
         let starts = identity.starts + 1;
         let first = segments::first_file(path).map_err(failed)?;
@@ -182,7 +201,7 @@ impl Folder {
         let presence = Presence {
             folder: identity.folder,
             starts,
-            run: random().map_err(failed)?,
+            run: crate::random().map_err(failed)?,
         };
         Ok(Folder {
             path: path.to_path_buf(),
@@ -221,8 +240,10 @@ impl Folder {
         if self.peers.get(&node).is_some_and(|known| !known.may_become(&presence)) {
             return Ok(false);
         }
-        self.peers.insert(node, presence);
-        replace(&self.path, "peers", &peers_text(&self.peers))?;
+        let mut peers = self.peers.clone();
+        peers.insert(node, presence);
+        replace(&self.path, "peers", &peers_text(&peers))?;
+        self.peers = peers;
         Ok(true)
     }
 }
@@ -272,6 +293,27 @@ mod tests {
         assert!(refusal(path, NODE, "a").ends_with("log.000001.000000: the log is missing"));
         fs::write(path.join("identity"), "node 3\n").unwrap();
         assert!(refusal(path, NODE, "a").contains("identity: it isn't what a node has written"));
+    }
+
+    #[test]
+    fn who_could_not_be_noted_is_not_known() {
+        let scratch = Scratch::new("unnoted");
+        Folder::create(scratch.path(), NODE, "a").unwrap();
+        let mut folder = Folder::open(scratch.path(), NODE, "a").unwrap();
+        let presence = folder.presence();
+        // nothing is written into a folder's name
+        let taken = scratch.path().join("peers.new");
+        fs::create_dir(&taken).unwrap();
+        for _ in 0..2 {
+            folder.admits(NodeId(1), presence).unwrap_err();
+            assert!(!folder.knows(NodeId(1), presence));
+        }
+        fs::remove_dir(taken).unwrap();
+        assert!(folder.admits(NodeId(1), presence).unwrap());
+        drop(folder);
+        assert!(Folder::open(scratch.path(), NODE, "a")
+            .unwrap()
+            .knows(NodeId(1), presence));
     }
 
     #[test]

@@ -23,6 +23,8 @@ const SEGMENT: u64 = 16 << 20;
 const SHORT_SEGMENT: u64 = 64 << 10;
 /// The name of a file that isn't whole yet. What a crash leaves of it is none of a log's.
 const ASIDE: &str = "log.new";
+/// The name of a file that is there once the log had anything. A log that has nothing is then a lost one, and not a new node's.
+const BEGUN: &str = "begun";
 /// How many bytes are filled at a time.
 const CHUNK: usize = 1 << 20;
 /// How long it takes until a full disk is tried again.
@@ -54,6 +56,8 @@ pub struct Segments {
     generation: u64,
     /// The lengths of its files that were there when it was read, or replaced.
     lengths: Vec<u64>,
+    /// Whether it is noted that the log had anything.
+    is_begun: bool,
     open: Option<Segment>,
     ahead: Option<Ahead>,
 }
@@ -334,6 +338,7 @@ impl Segments {
             size,
             generation: 0,
             lengths: Vec::new(),
+            is_begun: false,
             open: None,
             ahead: None,
         }
@@ -364,6 +369,16 @@ impl Segments {
             file.sync_all()?;
         }
         Ok(file)
+    }
+
+    /// Notes once that the log has something: before anybody relies on that.
+    fn note_begun(&mut self) -> io::Result<()> {
+        if !self.is_begun {
+            File::create(self.folder.join(BEGUN))?;
+            sync(&self.folder)?;
+            self.is_begun = true;
+        }
+        Ok(())
     }
 
     /// The number of the file behind the one that is written.
@@ -471,6 +486,7 @@ impl Segments {
         self.generation += 1;
         self.lengths = vec![length];
         self.open = Some(self.segment(file, 0, length, count));
+        self.note_begun()?;
         self.remove_others(&mut after)?;
         // (if there is no thread for it now, there is one once it is needed)
         self.ahead = Ahead::start(&self.folder, self.generation, 1, self.size).ok();
@@ -491,6 +507,16 @@ impl Disk for Segments {
     }
 
     fn cut(&mut self, end: u64) -> io::Result<()> {
+        self.is_begun = self.folder.join(BEGUN).try_exists()?;
+        match end {
+            0 if self.is_begun => {
+                return Err(damaged(
+                    "the log has nothing, and had something; nothing was changed".into(),
+                ))
+            }
+            0 => {}
+            _ => self.note_begun()?,
+        }
         // a log that a stop has left in its place may not be there durably yet
         sync(&self.folder)?;
         self.remove_others(&mut || {})?;
@@ -512,6 +538,7 @@ impl Disk for Segments {
     }
 
     fn append(&mut self, mut bytes: &[u8]) -> io::Result<()> {
+        let has_any = !bytes.is_empty();
         while !bytes.is_empty() {
             if self.open.as_ref().is_none_or(|open| open.used == open.length) {
                 self.open = Some(self.next()?);
@@ -519,6 +546,10 @@ impl Disk for Segments {
             let Some(open) = &mut self.open else { continue };
             let count = open.append(bytes)?;
             bytes = &bytes[count..];
+        }
+        // not before: of a first record that is torn a new node's log has nothing, too
+        if has_any {
+            self.note_begun()?;
         }
         Ok(())
     }
@@ -589,6 +620,23 @@ mod tests {
     }
 
     #[test]
+    fn a_log_that_was_lost_is_not_a_new_one() {
+        for length in [0, 100] {
+            let scratch = Scratch::new(&format!("begun-{length}"));
+            // (a start that writes nothing leaves it new)
+            reopened(scratch.path(), 0);
+            reopened(scratch.path(), 0).append(&[7; 50]).unwrap();
+            for file in files(scratch.path()).unwrap() {
+                fs::write(path(scratch.path(), 0, file.number), vec![0; length]).unwrap();
+            }
+            let mut log = Segments::with_size(scratch.path(), 100);
+            assert!(log.read().unwrap().iter().all(|byte| *byte == 0));
+            let error = log.cut(0).unwrap_err();
+            assert!(error.to_string().contains("had something"), "{error}");
+        }
+    }
+
+    #[test]
     fn a_name_is_that_of_one_file() {
         for (text, file) in [("log.000007", (0, 7)), ("log.000002.1234567", (2, 1_234_567))] {
             assert_eq!((parse(text), &name(file.0, file.1)[..]), (Some(file), text));
@@ -633,7 +681,7 @@ mod tests {
         let generation = log.generation();
         // (its thread ends first)
         drop(log);
-        let is_its = |name: &str| parse(name).is_some_and(|(of, _)| of == generation);
+        let is_its = |name: &str| name == BEGUN || parse(name).is_some_and(|(of, _)| of == generation);
         for entry in fs::read_dir(folder).unwrap() {
             let name = entry.unwrap().file_name().into_string().unwrap();
             assert!(is_its(&name), "{when}: {name} is left");

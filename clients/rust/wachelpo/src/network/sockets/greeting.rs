@@ -81,7 +81,8 @@ impl Sockets {
                 if has_lost && !self.setup.folder.knows(from, presence) {
                     return self.turn_away(slot, Refusal::Log, &[]);
                 }
-                if !self.setup.folder.admits(from, presence)? {
+                let admits = self.setup.folder.admits(from, presence);
+                if !admits.map_err(|error| Close(Some(format!("node {from} can't be noted: {error}"))))? {
                     return self.turn_away(slot, Refusal::Folder, &[]);
                 }
                 Role::Peer { from, seal: there }
