@@ -10,9 +10,17 @@ mod program {
 use program::options::{Command, Options, USAGE};
 use program::telling;
 use std::error::Error;
+use std::io::{self, Write};
 use std::process::ExitCode;
 use wachelpo::admin::{self, Question};
 use wachelpo::{ConnectionLimits, Folder, Node, NodeId, Secret, Tcp};
+
+/// Prints a line, and says if it couldn't: standard output may be closed or full.
+fn print(line: &str) -> io::Result<()> {
+    let mut out = io::stdout().lock();
+    writeln!(out, "{line}")?;
+    out.flush()
+}
 
 /// Runs a server, until it fails.
 fn serve(options: &Options) -> Result<(), Box<dyn Error>> {
@@ -52,7 +60,7 @@ fn serve(options: &Options) -> Result<(), Box<dyn Error>> {
         None => folder.log(),
     };
     let mut limits = ConnectionLimits::default();
-    limits.idle = options.client_timeout;
+    limits.idle = options.client_timeout.filter(|timeout| !timeout.is_zero());
     tcp = tcp.limits(limits);
     if let Some(password) = options.password()? {
         builder = builder.password(password);
@@ -78,20 +86,20 @@ fn serve(options: &Options) -> Result<(), Box<dyn Error>> {
     Ok(running.wait()?)
 }
 
-/// Asks each node until one has done it.
+/// Asks each node until one has done it. If none has, what each says is told: one may refuse it, and the others only say who leads.
 fn change(options: &Options, question: Question) -> Result<(), Box<dyn Error>> {
     let secret = options.secret()?.map(Secret::new);
-    let mut last: Box<dyn Error> = "no --peer is given".into();
+    let mut refusals = Vec::new();
     for (id, member) in options.members()? {
         match admin::ask(&member.peers, &options.cluster, secret.as_ref(), question) {
-            Ok(text) => {
-                println!("{text}");
-                return Ok(());
-            }
-            Err(error) => last = format!("node {id} at {}: {error}", member.peers).into(),
+            Ok(text) => return Ok(print(&text)?),
+            Err(error) => refusals.push(format!("node {id} at {}: {error}", member.peers)),
         }
     }
-    Err(last)
+    if refusals.is_empty() {
+        return Err("no --peer is given".into());
+    }
+    Err(refusals.join("; ").into())
 }
 
 /// Prints what each node says of itself.
@@ -102,9 +110,9 @@ fn status(options: &Options) -> Result<(), Box<dyn Error>> {
         match admin::ask(&member.peers, &options.cluster, secret.as_ref(), Question::Status) {
             Ok(text) => {
                 is_reached = true;
-                println!("{text}");
+                print(&text)?;
             }
-            Err(error) => println!("node={id} error={:?}", error.to_string()),
+            Err(error) => print(&format!("node={id} error={:?}", error.to_string()))?,
         }
     }
     is_reached.then_some(()).ok_or_else(|| "no node is reached".into())
@@ -117,14 +125,8 @@ fn run(options: &Options) -> Result<(), Box<dyn Error>> {
         Command::Status => status(options),
         Command::Join(id) => question(Question::Join, id),
         Command::Leave(id) => question(Question::Leave, id),
-        Command::Help => {
-            print!("{USAGE}");
-            Ok(())
-        }
-        Command::Version => {
-            println!("wachelpo {}", env!("CARGO_PKG_VERSION"));
-            Ok(())
-        }
+        Command::Help => Ok(print(USAGE.trim_end())?),
+        Command::Version => Ok(print(&format!("wachelpo {}", env!("CARGO_PKG_VERSION")))?),
     }
 }
 

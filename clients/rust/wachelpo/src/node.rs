@@ -217,7 +217,7 @@ impl Handle {
     ///
     /// Refusals:
     /// - [`Error::NotLeader`].
-    /// - [`Error::Refused`]: another change is under way, or no voter is left.
+    /// - [`Error::Refused`]: another change is under way, or no voter would be left.
     /// - [`Error::Ended`].
     pub fn set_members(&self, members: Members) -> Result<(), Error> {
         self.ask(|to| Request::Members(members, to))
@@ -505,7 +505,12 @@ impl<N: Network> Runner<N> {
                 let _ = to.send(Ok(()));
             }
             Request::Members(members, to) => {
-                let refused = self.take(Input::Members(&members))?.refused;
+                // the service would do it, and never be able to do anything more
+                let refused = if members.voters.is_empty() {
+                    Some("no voter would be left".into())
+                } else {
+                    self.take(Input::Members(&members))?.refused
+                };
                 let status = self.status()?;
                 let _ = to.send(match refused {
                     None => Ok(()),

@@ -111,6 +111,8 @@ pub(crate) fn answer(question: &str, handle: &Handle, is_known: impl Fn(NodeId) 
         Ok(text) => format!("ok {text}"),
         Err(Error::NotLeader(Some(id))) => format!("leader {id}"),
         Err(Error::NotLeader(None)) => "leader -".into(),
+        // (who has asked says that it is refused)
+        Err(Error::Refused(text)) => format!("error {text}"),
         Err(error) => format!("error {error}"),
     }
 }
@@ -131,6 +133,9 @@ fn answer_to(question: &str, handle: &Handle, is_known: impl Fn(NodeId) -> bool)
             if !voters.contains(&id) {
                 voters.push(id);
             }
+        }
+        Some(("leave", Ok(id))) if !voters.contains(&id) && !learners.contains(&id) => {
+            return Err(Error::Refused(format!("node {id} is no member")));
         }
         Some(("leave", Ok(id))) => {
             voters.retain(|it| *it != id);
