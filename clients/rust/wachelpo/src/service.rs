@@ -347,8 +347,26 @@ fn split_address(address: &str) -> Result<(&str, u16), Error> {
     }
 }
 
+/// Refuses settings that the library takes, and with which a cluster would never begin, or never rest.
+fn check(settings: &Builder) -> Result<(), Error> {
+    let voters = settings.voters.iter().flatten();
+    if let Some(id) = voters.into_iter().find(|id| !settings.members.contains_key(id)) {
+        return Err(Error::Settings(format!(
+            "voter {id} isn't one of those who may be members"
+        )));
+    }
+    if settings.election_timeout < settings.heartbeat * 2 {
+        return Err(Error::Settings(format!(
+            "the election timeout is shorter than two heartbeats, which are {:?} apart",
+            settings.heartbeat
+        )));
+    }
+    Ok(())
+}
+
 /// The settings as the library reads them.
 fn settings_bytes(settings: &Builder) -> Result<Vec<u8>, Error> {
+    check(settings)?;
     let limits = &settings.limits;
     let mut writer = Writer::default();
     writer.number(2); // the form
@@ -395,7 +413,7 @@ fn settings_bytes(settings: &Builder) -> Result<Vec<u8>, Error> {
     match &settings.password {
         Some(password) => {
             writer.number(1);
-            writer.bytes(password);
+            writer.bytes(&password.0);
         }
         None => writer.number(0),
     }
@@ -475,6 +493,16 @@ mod tests {
         assert_eq!(first[5..10], engine);
         assert_eq!(first[10..16], spans);
         assert_eq!(first[16..], [1 << 20, 16 << 20]);
+    }
+
+    #[test]
+    fn settings_that_suit_no_cluster_are_refused() {
+        let builder = || Builder::new(NodeId(1)).member(NodeId(1), "");
+        let refusal = |builder: Builder| settings_bytes(&builder).map(drop).unwrap_err().to_string();
+        assert!(refusal(builder().voters([NodeId(1), NodeId(9)])).starts_with("settings: voter 9 "));
+        let short = builder().election_timeout(Duration::from_millis(199));
+        assert!(refusal(short.clone()).contains("shorter than two heartbeats"));
+        settings_bytes(&short.heartbeat(Duration::from_millis(50)).voters([NodeId(1)])).unwrap();
     }
 
     #[test]

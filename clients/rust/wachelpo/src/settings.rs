@@ -4,6 +4,7 @@ use crate::network::cluster_number;
 use crate::{Clock, Disk, SystemClock};
 use crate::{Error, Node, NodeId};
 use std::collections::BTreeMap;
+use std::fmt;
 use std::time::Duration;
 
 /// How much is taken of clients and peers. All nodes of a cluster have the same.
@@ -52,6 +53,16 @@ impl Default for Limits {
     }
 }
 
+/// What clients must say, which is in no text that is printed.
+#[derive(Clone)]
+pub(crate) struct Password(pub Vec<u8>);
+
+impl fmt::Debug for Password {
+    fn fmt(&self, f: &mut fmt::Formatter<'_>) -> fmt::Result {
+        f.write_str("Password(..)")
+    }
+}
+
 /// The settings of a node, and the way to open it.
 ///
 /// All nodes that may ever be members are told with the addresses by which clients reach them, so that a client is sent on to the
@@ -77,7 +88,7 @@ pub struct Builder {
     pub(crate) heartbeat: Duration,
     pub(crate) patience: Duration,
     pub(crate) request_timeout: Duration,
-    pub(crate) password: Option<Vec<u8>>,
+    pub(crate) password: Option<Password>,
     pub(crate) info: String,
     pub(crate) snapshot_entries: u64,
     pub(crate) kept_entries: u64,
@@ -129,7 +140,8 @@ impl Builder {
         self
     }
 
-    /// How long a node hears nothing of a leader before it asks for votes. By default a second, and up to as much more by chance.
+    /// How long a node hears nothing of a leader before it asks for votes: at least two heartbeats. By default a second, and up to as much
+    /// more by chance.
     pub fn election_timeout(mut self, timeout: Duration) -> Self {
         self.election_timeout = timeout;
         self
@@ -149,7 +161,7 @@ impl Builder {
 
     /// What a client must say by `AUTH` before anything else. By default nothing.
     pub fn password(mut self, password: impl Into<Vec<u8>>) -> Self {
-        self.password = Some(password.into());
+        self.password = Some(Password(password.into()));
         self
     }
 
@@ -194,5 +206,16 @@ impl Builder {
     /// As [`Builder::open`], with clocks of the caller's.
     pub fn open_at<D: Disk + 'static, C: Clock + 'static>(&self, disk: D, clock: C) -> Result<Node, Error> {
         Node::open(self, Box::new(disk), Box::new(clock))
+    }
+}
+
+#[cfg(test)]
+mod tests {
+    use super::*;
+
+    #[test]
+    fn a_password_is_not_printed() {
+        let text = format!("{:?}", Node::builder(NodeId(1)).password([201, 202, 203]));
+        assert!(text.contains("Password(..)") && !text.contains("202"), "{text}");
     }
 }

@@ -31,7 +31,7 @@ usage: wachelpo serve --id ID --data DIR --listen HOST:PORT [--peer ID=HOST:PORT
   --secret FILE     what the nodes share: without it only loopback addresses are listened on
   --password FILE   what clients must say by AUTH: without it clients are only listened for on a loopback address
   --election-timeout MS  how long a node hears nothing of a leader before it asks for votes (by default 1000)
-  --client-timeout S     how long a client may be silent (by default for ever)
+  --client-timeout S     how long a client may be silent (0: for ever, as by default)
   --snapshot-entries N   after how many entries the next snapshot is made, the same at each node; 0: never (by default 500)
   --kept-entries N       how many entries of a snapshot are kept for nodes that lack few, the same at each node (by default 10000)
   --log-bytes N          after how many bytes the log is replaced by one that begins with the last snapshot (by default 67108864)
@@ -192,6 +192,9 @@ impl Options {
         }
         if options.cluster.is_empty() {
             options.cluster = "wachelpo".into();
+        }
+        if options.cluster.contains(char::is_control) {
+            return Err("a cluster's name is one line".into());
         }
         Ok(options)
     }
@@ -359,6 +362,12 @@ mod tests {
         ] {
             assert!(options(line).unwrap().members().is_err(), "{line}");
         }
+    }
+
+    #[test]
+    fn a_clusters_name_is_one_line() {
+        let of = |name: &'static str| Options::of_args(lexopt::Parser::from_args(["serve", "--cluster", name]));
+        assert!(of("a b").is_ok() && of("a\nb").is_err() && of("a\r").is_err());
     }
 
     #[test]

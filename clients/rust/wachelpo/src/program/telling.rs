@@ -18,10 +18,14 @@ struct Telling(Mutex<BTreeMap<String, Instant>>);
 
 /// Prints what is told from now on, up to what `WACHELPO_LOG` names: `error`, `warn`, `info` (if it isn't set), `debug`.
 pub fn start() {
-    let level = std::env::var("WACHELPO_LOG").ok().and_then(|text| text.parse().ok());
+    let named = std::env::var("WACHELPO_LOG").unwrap_or("info".into());
+    let level = named.parse();
     // (nobody else has set one)
     let _ = log::set_logger(&TELLING);
-    log::set_max_level(level.unwrap_or(LevelFilter::Info));
+    log::set_max_level(*level.as_ref().unwrap_or(&LevelFilter::Info));
+    if level.is_err() {
+        log::warn!("WACHELPO_LOG: {named} is none of error, warn, info, debug; it is taken as info");
+    }
 }
 
 impl Telling {
