@@ -219,6 +219,8 @@ impl Inbox {
             ControlFlow::Continue(patience) => patience,
             ControlFlow::Break(end) => {
                 self.end(end);
+                // whoever waits for an answer is told so before the handler goes, which may wait for them
+                *mail = Mail::default();
                 Duration::ZERO
             }
         }

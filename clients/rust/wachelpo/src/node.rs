@@ -184,7 +184,7 @@ impl Running {
         end
     }
 
-    /// Ends the node: as a kill does, but that its threads end. What was answered is on disk.
+    /// Ends the node: as a kill does, but that its threads end, and those of its network. What was answered is on disk.
     pub fn stop(self) -> Result<(), Error> {
         match self.handle.0.ask(Request::Stop) {
             Ok(()) | Err(Error::Ended) => self.wait(),

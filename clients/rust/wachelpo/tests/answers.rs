@@ -153,3 +153,14 @@ fn all_who_read_nothing_share_a_limit() {
     drop(idle);
     server.wait_for("nothing waits", |it| it.number("wachelpo_client_waiting_bytes") == 0);
 }
+
+#[test]
+fn a_node_that_is_stopped_leaves_nothing_behind() {
+    let mut server = Server::start("stopped", |_| {});
+    let mut client = server.connect();
+    server.running.take().unwrap().stop().unwrap();
+    // nobody waits for it, its address is free and so is its folder
+    assert_eq!(client.read(&mut [0]).unwrap_or(0), 0);
+    assert!(TcpStream::connect(server.address).is_err());
+    drop(Folder::open(&server.folder, NodeId(1), "answers").unwrap());
+}

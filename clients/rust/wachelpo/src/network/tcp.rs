@@ -10,12 +10,15 @@ use crate::{Error, NodeId};
 use mio::Waker;
 use std::collections::BTreeMap;
 use std::net::SocketAddr;
-use std::sync::{Arc, Mutex, PoisonError};
+use std::sync::mpsc::{channel, Receiver};
+use std::sync::{Arc, Mutex, MutexGuard, PoisonError};
 use std::thread;
 use std::time::Duration;
 
 /// Fewer bytes that were taken are no reason to wake a thread.
 const FEW: usize = 32 << 10;
+/// How long the end of the thread of the sockets is waited for: for ever it would be if it asks a node that has never run.
+const PATIENCE: Duration = Duration::from_secs(1);
 
 /// How much is taken of connections.
 #[derive(Clone, Copy, PartialEq, Eq, Debug)]
@@ -142,19 +145,30 @@ impl TcpBuilder {
             folder,
         };
         let (sockets, waker) = Sockets::open(setup, &self.addresses, self.peers)?;
+        let (runs, has_ended) = channel();
         thread::Builder::new()
             .name("sockets".into())
-            .spawn(move || sockets.run())
+            .spawn(move || {
+                sockets.run();
+                drop(runs);
+            })
             .map_err(Error::Io)?;
-        Ok(Tcp { outbox, waker })
+        Ok(Tcp {
+            outbox,
+            waker,
+            has_ended,
+        })
     }
 }
 
-/// A network over TCP: clients speak RESP, nodes send each other frames, and metrics are read by HTTP.
+/// A network over TCP: clients speak RESP, nodes send each other frames, and metrics are read by HTTP. With it end its connections, and
+/// its folder is free again.
 pub struct Tcp {
     outbox: Arc<Mutex<Outbox>>,
     /// Wakes the thread of the sockets.
     waker: Arc<Waker>,
+    /// Says nothing, until that thread has ended.
+    has_ended: Receiver<()>,
 }
 
 /// What waits for the thread of the sockets.
@@ -163,6 +177,8 @@ pub(crate) struct Outbox {
     pub deliveries: Deliveries,
     /// Whether the thread will look before it waits again.
     pub is_awake: bool,
+    /// Whether nothing comes any more.
+    pub is_over: bool,
 }
 
 impl Tcp {
@@ -178,6 +194,18 @@ impl Tcp {
             limits: ConnectionLimits::default(),
         }
     }
+
+    fn outbox(&self) -> MutexGuard<'_, Outbox> {
+        self.outbox.lock().unwrap_or_else(PoisonError::into_inner)
+    }
+}
+
+impl Drop for Tcp {
+    fn drop(&mut self) {
+        self.outbox().is_over = true;
+        let _ = self.waker.wake();
+        let _ = self.has_ended.recv_timeout(PATIENCE);
+    }
 }
 
 impl Network for Tcp {
@@ -185,13 +213,13 @@ impl Network for Tcp {
         // that a few bytes were taken can wait until something is to be sent, or the thread looks around
         let can_wait = |it| matches!(it, Delivery::Taken(_, count) if count < FEW);
         let is_urgent = deliveries.iter().any(|(it, _)| !can_wait(it));
-        let mut outbox = self.outbox.lock().unwrap_or_else(PoisonError::into_inner);
+        let mut outbox = self.outbox();
         outbox.deliveries.append(deliveries);
         let wakes = is_urgent && !outbox.is_awake;
         outbox.is_awake |= wakes;
         drop(outbox);
         if wakes {
-            // (its thread ends only with the process)
+            // (its thread ends only with this)
             let _ = self.waker.wake();
         }
     }

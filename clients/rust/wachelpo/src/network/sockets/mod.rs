@@ -224,6 +224,8 @@ pub(crate) struct Sockets {
     is_congested: bool,
     /// Whether the node may have something to do that can wait.
     may_idle: bool,
+    /// Whether the node delivers nothing any more.
+    is_over: bool,
     /// Connections that may have something to read, and those that something is to be written to.
     ready: Vec<usize>,
     dirty: Vec<usize>,
@@ -315,6 +317,7 @@ impl Sockets {
             gathering: Gathering::default(),
             is_congested: false,
             may_idle: false,
+            is_over: false,
             ready: Vec::new(),
             dirty: Vec::new(),
             chunk: vec![0; CHUNK],
@@ -324,7 +327,7 @@ impl Sockets {
         Ok((sockets, waker))
     }
 
-    /// Moves bytes, until the process ends.
+    /// Moves bytes, until the network ends.
     pub fn run(mut self) {
         let mut events = Events::with_capacity(1024);
         let mut deliveries = Deliveries::new();
@@ -360,6 +363,9 @@ impl Sockets {
             }
             self.read_ready();
             self.serve(&mut deliveries);
+            if self.is_over {
+                return;
+            }
             if self.looked.elapsed() >= LOOK {
                 self.looked = Instant::now();
                 self.look();
@@ -409,7 +415,9 @@ impl Sockets {
         let mut outbox = self.outbox();
         std::mem::swap(&mut outbox.deliveries, deliveries);
         outbox.is_awake = is_awake;
+        let is_over = outbox.is_over;
         drop(outbox);
+        self.is_over = is_over;
         let mut answered = 0;
         for (delivery, bytes) in deliveries.iter() {
             answered += usize::from(matches!(delivery, Delivery::Bytes(_)));
