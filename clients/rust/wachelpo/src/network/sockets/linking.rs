@@ -28,6 +28,9 @@ fn notice_cuts(stream: &TcpStream) {
 
 impl Sockets {
     pub(super) fn connect(&mut self, to: NodeId, address: Option<SocketAddr>) {
+        if let Some(link) = self.links.get_mut(&to) {
+            link.is_sought = false;
+        }
         let added = match address {
             Some(address) => TcpStream::connect(address)
                 .and_then(|stream| {
@@ -62,6 +65,9 @@ impl Sockets {
         };
         if thread::Builder::new().name("names".into()).spawn(look_up).is_err() {
             self.unlinked(to, "no thread can be started to look its host's name up");
+        } else if let Some(link) = self.links.get_mut(&to) {
+            // of two that are found one connection would be lost, and cut off by the other node, again and again
+            link.is_sought = true;
         }
     }
 
@@ -124,5 +130,63 @@ impl Sockets {
         link.at = Instant::now() + link.backoff;
         link.backoff = (link.backoff * 2).min(BACKOFF_MOST);
         self.count_links();
+    }
+}
+
+#[cfg(test)]
+mod tests {
+    use super::*;
+    use crate::disk::Folder;
+    use crate::network::handshake::Secret;
+    use crate::network::sockets::{Addresses, Setup};
+    use crate::network::ConnectionLimits;
+    use crate::scratch::Scratch;
+    use crate::{MemoryDisk, Node};
+    use std::sync::Arc;
+    use std::time::Duration;
+
+    fn sockets(scratch: &Scratch, address: &str) -> Sockets {
+        let id = NodeId(1);
+        Folder::create(scratch.path(), id, "a").unwrap();
+        let folder = Folder::open(scratch.path(), id, "a").unwrap();
+        let node = Node::builder(id).member(id, "").open(MemoryDisk::new()).unwrap();
+        let setup = Setup {
+            id,
+            cluster: 7,
+            is_secret: false,
+            secret: Secret::new(""),
+            limits: ConnectionLimits::default(),
+            inbox: node.inbox(),
+            handle: node.handle(),
+            metrics: node.metrics(),
+            outbox: Arc::default(),
+            folder,
+        };
+        let peers = [(NodeId(2), address.to_string())].into();
+        Sockets::open(setup, &Addresses::default(), peers).unwrap().0
+    }
+
+    #[test]
+    fn a_name_is_looked_up_once_however_long_that_takes() {
+        let scratch = Scratch::new("names");
+        let mut sockets = sockets(&scratch, "localhost:1");
+        let later = Instant::now() + Duration::from_secs(3600);
+        for _ in 0..3 {
+            sockets.connect_again(later);
+        }
+        let found = sockets.found.clone();
+        let count = move || found.lock().unwrap().len();
+        while count() == 0 {
+            thread::yield_now();
+        }
+        thread::sleep(Duration::from_millis(200));
+        assert_eq!(count(), 1);
+        // once it is found, it is connected to; and looked up again after that has failed
+        sockets.look();
+        sockets.links.get_mut(&NodeId(2)).unwrap().slot = None;
+        sockets.connect_again(later);
+        while count() == 0 {
+            thread::yield_now();
+        }
     }
 }

@@ -159,6 +159,8 @@ enum Step {
 struct Link {
     address: String,
     slot: Option<usize>,
+    /// Whether a thread looks its host's name up.
+    is_sought: bool,
     /// When it is connected to again, and how long after the next failure.
     at: Instant,
     backoff: Duration,
@@ -287,6 +289,7 @@ impl Sockets {
         let link = |address| Link {
             address,
             slot: None,
+            is_sought: false,
             at: now,
             backoff: BACKOFF,
             is_up: false,
@@ -551,7 +554,7 @@ impl Sockets {
     }
 
     fn connect_again(&mut self, now: Instant) {
-        let due = |link: &Link| link.slot.is_none() && now >= link.at;
+        let due = |link: &Link| link.slot.is_none() && !link.is_sought && now >= link.at;
         let due: Vec<_> = self
             .links
             .iter()
@@ -559,10 +562,6 @@ impl Sockets {
             .map(|(id, link)| (*id, link.address.clone()))
             .collect();
         for (to, address) in due {
-            if let Some(link) = self.links.get_mut(&to) {
-                // (no other try meanwhile)
-                link.at = now + PATIENCE * 2;
-            }
             match address.parse() {
                 Ok(address) => self.connect(to, Some(address)),
                 Err(_) => self.look_up(to, address),
