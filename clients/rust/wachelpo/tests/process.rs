@@ -482,6 +482,103 @@ fn strangers_reach_nothing() {
     set(&cluster, "a", "1");
 }
 
+/// A hello of nobody, which wants any node of a cluster of this number, without a secret.
+fn hello(cluster: u64) -> Vec<u8> {
+    let words = [2, 0, cluster, 0, 0, 0, 0, 0, 0, 0];
+    let words = words.iter().flat_map(|word: &u64| word.to_le_bytes());
+    b"wachelpo".iter().copied().chain(words).chain([0; 32]).collect()
+}
+
+#[test]
+fn who_was_turned_away_is_not_heard_again() {
+    let cluster = begin("away", 1);
+    let mut stream = TcpStream::connect(cluster.peers_address(1)).unwrap();
+    stream.set_read_timeout(Some(LONG)).unwrap();
+    stream.write_all(&hello(7).repeat(100)).unwrap();
+    let mut said = Vec::new();
+    let _ = stream.read_to_end(&mut said);
+    // a challenge, and why
+    assert_eq!((said.len(), said.last()), (64 + 1, Some(&1)));
+}
+
+/// Runs the program with words, at a cluster's nodes.
+fn run(cluster: &Cluster, words: &[&str]) -> std::process::Output {
+    let mut command = Command::new(PROGRAM);
+    command.args(words).args(["--cluster", "torture", "--secret"]);
+    command.arg(cluster.folder(1).with_file_name("secret"));
+    for id in &cluster.ids {
+        command
+            .arg("--peer")
+            .arg(format!("{id}={}", cluster.peers_address(*id)));
+    }
+    command.output().unwrap()
+}
+
+#[test]
+fn why_the_leader_refuses_is_told_whatever_others_say() {
+    let cluster = {
+        let mut cluster = Cluster::new(Path::new(PROGRAM), &folder("refuses"), 2, 1).unwrap();
+        for id in [1, 2] {
+            cluster.start(id).unwrap();
+        }
+        set(&cluster, "begun", "1");
+        cluster
+    };
+    for (id, why) in [("1", "no voter would be left"), ("2", "node 2 is no member")] {
+        let output = run(&cluster, &["leave", id]);
+        let text = String::from_utf8(output.stderr).unwrap();
+        assert_eq!(output.status.code(), Some(1), "{text}");
+        let told = text
+            .split("node 1 at ")
+            .nth(1)
+            .and_then(|text| text.split_once(": "))
+            .unwrap();
+        assert!(told.1.starts_with(&format!("refused: {why}; node 2 at ")), "{text}");
+    }
+    // and nothing was changed
+    set(&cluster, "still", "1");
+}
+
+#[test]
+fn an_output_that_takes_nothing_is_told() {
+    let cluster = begin("full", 1);
+    let peer = format!("1={}", cluster.peers_address(1));
+    for words in [&["--help"][..], &["--version"], &["status", "--peer", &peer]] {
+        let full = fs::OpenOptions::new().write(true).open("/dev/full").unwrap();
+        let output = Command::new(PROGRAM).args(words).stdout(full).output().unwrap();
+        let text = String::from_utf8(output.stderr).unwrap();
+        assert_eq!(output.status.code(), Some(1), "{text}");
+        assert!(text.contains("No space left on device"), "{text}");
+    }
+}
+
+#[test]
+fn a_page_in_a_browser_writes_nothing() {
+    let cluster = begin("page", 1);
+    let mut stream = TcpStream::connect(cluster.address(1)).unwrap();
+    stream.set_read_timeout(Some(LONG)).unwrap();
+    let request = b"POST / HTTP/1.1\r\nHost: 127.0.0.1\r\nContent-Length: 14\r\n\r\nSET page here\r\n";
+    stream.write_all(request).unwrap();
+    assert_eq!(stream.read_to_end(&mut Vec::new()).unwrap_or(0), 0);
+    assert_eq!(get(&cluster, "page"), None);
+}
+
+/// The system asks whether a silent client is still there: its connection has the timer for that.
+#[test]
+fn clients_that_go_without_a_word_are_noticed() {
+    let cluster = begin("absent", 1);
+    let _client = TcpStream::connect(cluster.address(1)).unwrap();
+    let here = format!("0100007F:{:04X}", cluster.address(1).port());
+    wait_for("its timer", || {
+        let table = fs::read_to_string("/proc/net/tcp").unwrap();
+        let is_asked = |line: &str| {
+            let words: Vec<&str> = line.split_whitespace().collect();
+            words.get(1) == Some(&&here[..]) && words[3] == "01" && words[5].starts_with("02:")
+        };
+        table.lines().any(is_asked).then_some(())
+    });
+}
+
 #[test]
 fn who_isnt_known_doesnt_join() {
     let cluster = begin("unknown", 3);

@@ -1,5 +1,6 @@
 //! Connections that others make.
 
+use super::linking::notice_absence;
 use super::{Client, Role, Socket, Sockets, CLIENTS, FIRST, PAUSE, PEERS, STRANGERS};
 use crate::batch::Arrival;
 use crate::ClientId;
@@ -37,11 +38,13 @@ impl Sockets {
             self.close_oldest_stranger();
         }
         let _ = stream.set_nodelay(true);
+        notice_absence(&stream);
         let role = match token {
             CLIENTS => {
                 self.last_client += 1;
                 Role::Client(Client {
                     id: ClientId(self.last_client),
+                    is_new: true,
                     unread: 0,
                     asked: None,
                 })

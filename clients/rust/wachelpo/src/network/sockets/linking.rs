@@ -11,19 +11,33 @@ use std::sync::PoisonError;
 use std::thread;
 use std::time::Instant;
 
-/// A connection whose bytes stay unacknowledged ends: it may have been cut off.
-fn notice_cuts(stream: &TcpStream) {
-    let milliseconds = UNACKNOWLEDGED.as_millis() as libc::c_uint;
-    // SAFETY: the descriptor is open, the pointer and the length are those of a number. If it has no effect, a cut is noticed later.
+/// Sets a number of a connection's. If it has no effect, what it is for is noticed later.
+fn set(stream: &TcpStream, level: libc::c_int, name: libc::c_int, number: libc::c_int) {
+    // SAFETY: the descriptor is open, the pointer and the length are those of a number.
     unsafe {
         libc::setsockopt(
             stream.as_raw_fd(),
-            libc::IPPROTO_TCP,
-            libc::TCP_USER_TIMEOUT,
-            (&raw const milliseconds).cast(),
-            size_of_val(&milliseconds) as libc::socklen_t,
+            level,
+            name,
+            (&raw const number).cast(),
+            size_of_val(&number) as libc::socklen_t,
         );
     }
+}
+
+/// A connection whose bytes stay unacknowledged ends: it may have been cut off.
+fn notice_cuts(stream: &TcpStream) {
+    let milliseconds = UNACKNOWLEDGED.as_millis() as libc::c_int;
+    set(stream, libc::IPPROTO_TCP, libc::TCP_USER_TIMEOUT, milliseconds);
+}
+
+/// A silent connection is asked whether it is still there, as by Redis: after 300 s, and then three times. Who is gone without a word would
+/// count as a client for ever, else, of whom only so many are taken.
+pub(super) fn notice_absence(stream: &TcpStream) {
+    set(stream, libc::SOL_SOCKET, libc::SO_KEEPALIVE, 1);
+    set(stream, libc::IPPROTO_TCP, libc::TCP_KEEPIDLE, 300);
+    set(stream, libc::IPPROTO_TCP, libc::TCP_KEEPINTVL, 100);
+    set(stream, libc::IPPROTO_TCP, libc::TCP_KEEPCNT, 3);
 }
 
 impl Sockets {

@@ -135,6 +135,8 @@ impl Role {
 
 struct Client {
     id: ClientId,
+    /// Whether nothing has come of it yet.
+    is_new: bool,
     /// How many bytes wait for the node.
     unread: usize,
     /// When its bytes came that aren't answered yet.

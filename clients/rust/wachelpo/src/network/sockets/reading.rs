@@ -8,6 +8,10 @@ use crate::network::{admin, page};
 use std::io::{ErrorKind, Read};
 use std::time::Instant;
 
+/// What a browser says first if a page of a stranger's wants it to: what follows would be commands, each in its line. (Redis closes such
+/// connections, too.)
+const POST: &[u8] = b"POST ";
+
 impl Sockets {
     pub(super) fn read_ready(&mut self) {
         if self.is_congested {
@@ -51,6 +55,13 @@ impl Sockets {
             socket.heard = self.looked;
             share = share.saturating_sub(count);
             if let Role::Client(client) = &mut socket.role {
+                if std::mem::take(&mut client.is_new) && self.chunk[..count].starts_with(POST) {
+                    log::warn!(
+                        "client {}: it speaks HTTP, as a page in a browser does; its connection is closed",
+                        client.id
+                    );
+                    return Err(Close(None));
+                }
                 client.unread += count;
                 client.asked.get_or_insert_with(Instant::now);
                 self.setup.metrics.client_bytes_received.add(count as u64);
@@ -68,9 +79,9 @@ impl Sockets {
         Ok(())
     }
 
-    /// Takes the next thing, and says whether there was one.
+    /// Takes the next thing, and says whether there was one. Of who was turned away nothing more is taken.
     fn parse_one(&mut self, slot: usize) -> Result<bool, Close> {
-        let Some(socket) = &mut self.slots[slot] else {
+        let Some(socket) = self.slots[slot].as_mut().filter(|it| !it.is_closing) else {
             return Ok(false);
         };
         match &mut socket.role {
