@@ -25,13 +25,16 @@ pub struct Cluster {
     children: BTreeMap<u64, Child>,
 }
 
+/// How many ports a process has of its own: more than its tests want, since one that is given away a second time may be in use by then.
+const EACH: u16 = 250;
 /// The ports that were given away last, by clusters of this process.
 static PORTS: AtomicU16 = AtomicU16::new(0);
 
 /// An address that nobody listens on, nor connects from: below the ports that the system gives to connections.
 fn free() -> io::Result<SocketAddr> {
     loop {
-        let port = 10_000 + (std::process::id() % 200) as u16 * 100 + PORTS.fetch_add(1, Ordering::Relaxed) % 100;
+        let own = (std::process::id() % 80) as u16 * EACH;
+        let port = 10_000 + own + PORTS.fetch_add(1, Ordering::Relaxed) % EACH;
         match TcpListener::bind(("127.0.0.1", port)) {
             Ok(listener) => return listener.local_addr(),
             Err(error) if error.kind() == io::ErrorKind::AddrInUse => {}
