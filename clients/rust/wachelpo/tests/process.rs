@@ -772,3 +772,36 @@ fn clients_of_redis_are_served() {
     let text = run_if_there("/usr/bin/python3", &["-c", PYTHON, &port]);
     assert!(text.is_none_or(|text| ["[True, 6]\nwatching keys is not supported\nb'6'\n", ""].contains(&&text[..])));
 }
+
+/// How many files a process may have open.
+fn open_files() -> usize {
+    let limits = fs::read_to_string("/proc/self/limits").unwrap();
+    let line = limits.lines().find(|line| line.starts_with("Max open files")).unwrap();
+    line.split_whitespace().nth(3).unwrap().parse().unwrap_or(usize::MAX)
+}
+
+#[test]
+fn a_thousand_idle_clients_and_a_thousand_slow_ones_hold_nobody_up() {
+    let cluster = begin("crowd", 1);
+    let count = (open_files() / 5).min(1000);
+    let crowd = || -> Vec<_> {
+        let open = |_| TcpStream::connect(cluster.address(1)).unwrap();
+        (0..count).map(open).collect()
+    };
+    let (idle, mut slow) = (crowd(), crowd());
+    for byte in b"PING\r\n" {
+        for stream in &mut slow {
+            stream.write_all(&[*byte]).unwrap();
+        }
+        let begun = Instant::now();
+        set(&cluster, "served", "1");
+        assert!(begun.elapsed() < Duration::from_secs(5), "{:?}", begun.elapsed());
+    }
+    for stream in &mut slow {
+        stream.set_read_timeout(Some(LONG)).unwrap();
+        let mut reply = [0; 7];
+        stream.read_exact(&mut reply).unwrap();
+        assert_eq!(&reply, b"+PONG\r\n");
+    }
+    assert_eq!(idle.len(), count);
+}
