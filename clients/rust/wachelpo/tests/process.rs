@@ -627,12 +627,16 @@ fn silent_connections_neither_end_servers_nor_part_them() {
             silent.extend(connect(cluster.peers_address(id)));
         }
     }
-    // one more is told so
-    let mut text = String::new();
-    let mut refused = connect(cluster.address(1)).unwrap();
-    refused.set_read_timeout(Some(LONG)).unwrap();
-    let _ = refused.read_to_string(&mut text);
-    assert_eq!(text, "-ERR max number of clients reached\r\n");
+    // one more is told so, once it is noticed that the client is gone who has set a key
+    let told = wait_for("one more is told so", || {
+        let mut more = connect(cluster.address(1))?;
+        more.set_read_timeout(Some(Duration::from_secs(1))).unwrap();
+        let mut text = String::new();
+        let _ = more.read_to_string(&mut text);
+        silent.push(more);
+        (!text.is_empty()).then_some(text)
+    });
+    assert_eq!(told, "-ERR max number of clients reached\r\n");
     // without node 2, which comes back among them, node 1 can't go on
     cluster.kill(2).unwrap();
     cluster.kill(3).unwrap();
