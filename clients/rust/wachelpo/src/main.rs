@@ -81,7 +81,11 @@ fn serve(options: &Options) -> Result<(), Box<dyn Error>> {
     let running = node.start(tcp)?;
     log::info!("node {id} of cluster {}: clients at {listen}", options.cluster);
     if begins {
-        running.handle().initialize()?;
+        match running.handle().initialize() {
+            // (its end says why)
+            Ok(()) | Err(wachelpo::Error::Ended) => {}
+            Err(error) => return Err(error.into()),
+        }
     }
     Ok(running.wait()?)
 }

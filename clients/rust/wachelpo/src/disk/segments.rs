@@ -295,7 +295,7 @@ impl Filler {
             if !is_told {
                 is_told = true;
                 log::error!(
-                    "log: the disk is full: the node ends once the {} bytes that are ready are used",
+                    "log: the disk is full: no file of {} bytes can be made, and the node ends once those before it are used",
                     self.size
                 );
             }
