@@ -16,8 +16,9 @@ use std::fs;
 use std::io::{Read, Write};
 use std::net::TcpStream;
 use std::os::unix::fs::PermissionsExt;
+use std::os::unix::process::CommandExt;
 use std::path::{Path, PathBuf};
-use std::process::{Command, Stdio};
+use std::process::{Child, Command, Stdio};
 use std::thread;
 use std::time::{Duration, Instant};
 
@@ -645,6 +646,76 @@ fn silent_connections_neither_end_servers_nor_part_them() {
     set(&cluster, "a", "1");
     assert_eq!(cluster.ended(), []);
     fs::remove_file(program).unwrap();
+}
+
+/// Serves on a small file system in memory, once for each line: its size, and a word more for the server.
+const SMALL: &str = r#"
+mount -t tmpfs none "$0" || exit
+while read -r size word; do
+    mount -o remount,size="$size" none "$0" || exit
+    "$@" $word < /dev/null
+done
+"#;
+
+/// A process and all that it has started, which are killed.
+struct Group(Child);
+
+impl Drop for Group {
+    fn drop(&mut self) {
+        let _ = Command::new("kill")
+            .args(["-KILL", "--", &format!("-{}", self.0.id())])
+            .status();
+        let _ = self.0.wait();
+    }
+}
+
+#[test]
+fn a_full_disk_ends_a_server_that_loses_nothing() {
+    let cluster = Cluster::new(Path::new(PROGRAM), &folder("small"), 1, 1).unwrap();
+    let disk = cluster.folder(1);
+    fs::create_dir(&disk).unwrap();
+    let mut command = Command::new("unshare");
+    command.args(["-rm", "sh", "-c", SMALL]).arg(&disk).arg(PROGRAM);
+    command.args(["serve", "--id", "1", "--log-bytes", "200000", "--listen"]);
+    command
+        .arg(cluster.address(1).to_string())
+        .arg("--data")
+        .arg(disk.join("data"));
+    let errors = fs::File::create(cluster.errors_of(1)).unwrap();
+    command
+        .stdin(Stdio::piped())
+        .stdout(Stdio::null())
+        .stderr(errors)
+        .process_group(0);
+    let mut group = Group(command.spawn().unwrap());
+    let mut lines = group.0.stdin.take().unwrap();
+    lines.write_all(b"1500k --new\n").unwrap();
+    let told = || fs::read_to_string(cluster.errors_of(1)).unwrap();
+    let is_there = wait_for("it serves", || {
+        let is_there = TcpStream::connect(cluster.address(1)).is_ok();
+        (is_there || group.0.try_wait().unwrap().is_some()).then_some(is_there)
+    });
+    if !is_there {
+        eprintln!("not tried, since nothing may be mounted: {}", told());
+        return;
+    }
+    set(&cluster, "first", "1");
+    let mut connection = Connection::open(cluster.address(1), LONG).unwrap();
+    let value = "v".repeat(20_000);
+    let mut write = |key| connection.ask(&[vec!["SET", &format!("k{key}"), &value]]);
+    let written = (0..200)
+        .take_while(|key| write(*key).is_ok_and(|it| it[0] == Reply::Simple("OK".into())))
+        .count();
+    assert!((1..200).contains(&written));
+    wait_for("it is told", || {
+        told().contains("No space left on device").then_some(())
+    });
+    // with more room it goes on with all that it has answered
+    lines.write_all(b"64m\n").unwrap();
+    for key in 0..written {
+        assert!(get(&cluster, &format!("k{key}")).is_some_and(|it| it == value));
+    }
+    set(&cluster, "last", "1");
 }
 
 #[test]
