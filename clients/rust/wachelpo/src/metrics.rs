@@ -170,7 +170,7 @@ impl Metrics {
             ("frames_received_total", "Frames of other nodes.", &self.frames_received),
             (
                 "frames_dropped_total",
-                "Frames that were dropped, since too much waited.",
+                "Frames that were dropped: their node wasn't connected, or too much waited.",
                 &self.frames_dropped,
             ),
             (
@@ -215,7 +215,7 @@ impl Metrics {
                 "Bytes for clients that wait until these read.",
                 self.client_bytes_waiting.get(),
             ),
-            ("log_end", "The position up to which the log is on disk.", log.end),
+            ("log_end_bytes", "Up to which byte the log is on disk.", log.end),
             (
                 "log_generation",
                 "How often the log was replaced by a new one.",

@@ -24,7 +24,7 @@ pub(crate) fn answer(request: &[u8], metrics: &Metrics) -> Option<Vec<u8>> {
 
 fn response(status: &str, kind: &str, body: &str) -> Vec<u8> {
     let length = body.len();
-    format!("HTTP/1.1 {status}\r\nContent-Type: {kind}\r\nContent-Length: {length}\r\nConnection: close\r\n\r\n{body}")
+    format!("HTTP/1.1 {status}\r\nContent-Type: {kind}\r\nContent-Length: {length}\r\nAllow: GET\r\nConnection: close\r\n\r\n{body}")
         .into_bytes()
 }
 
