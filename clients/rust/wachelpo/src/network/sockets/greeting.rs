@@ -47,7 +47,9 @@ impl Sockets {
     /// Says why somebody isn't admitted, behind what it waits for.
     fn turn_away(&mut self, slot: usize, refusal: Refusal, before: &[u8]) -> Result<(), Close> {
         self.setup.metrics.connections_refused.add(1);
-        log::warn!("peers: somebody isn't admitted: {refusal}");
+        if let Some(socket) = &self.slots[slot] {
+            log::warn!("peers: {} isn't admitted: {refusal}", socket.whose());
+        }
         self.say(slot, &[before, &[refusal.to_byte()]].concat(), true);
         Ok(())
     }

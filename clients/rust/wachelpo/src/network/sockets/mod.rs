@@ -509,7 +509,7 @@ impl Sockets {
             Role::Stranger(_) => {
                 self.strangers -= 1;
                 if let Some(why) = why {
-                    log::warn!("peers: somebody isn't admitted: {why}");
+                    log::warn!("peers: {} isn't admitted: {why}", socket.whose());
                 }
             }
             Role::Page | Role::Admin { .. } => self.strangers -= 1,

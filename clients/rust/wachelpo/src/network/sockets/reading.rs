@@ -56,9 +56,10 @@ impl Sockets {
             share = share.saturating_sub(count);
             if let Role::Client(client) = &mut socket.role {
                 if std::mem::take(&mut client.is_new) && self.chunk[..count].starts_with(POST) {
+                    let id = client.id;
+                    let whose = socket.whose();
                     log::warn!(
-                        "client {}: it speaks HTTP, as a page in a browser does; its connection is closed",
-                        client.id
+                        "client {id}: {whose} speaks HTTP, as a page in a browser does; its connection is closed"
                     );
                     return Err(Close(None));
                 }

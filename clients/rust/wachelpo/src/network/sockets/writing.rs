@@ -117,7 +117,12 @@ impl Sockets {
     }
 
     fn overrun(&mut self, slot: usize, client: ClientId) {
-        log::warn!("client {client}: it doesn't read its answers; its connection is closed");
+        if let Some(socket) = &self.slots[slot] {
+            log::warn!(
+                "client {client}: {} doesn't read its answers; its connection is closed",
+                socket.whose()
+            );
+        }
         self.setup.metrics.connections_overrun.add(1);
         self.close(slot, None);
     }
@@ -160,6 +165,12 @@ impl Sockets {
 }
 
 impl Socket {
+    /// Where it comes from, for who reads what is told.
+    pub(super) fn whose(&self) -> String {
+        let address = self.stream.peer_addr();
+        address.map_or("somebody".into(), |it| format!("who is at {it}"))
+    }
+
     /// How many bytes wait to be written.
     pub(super) fn waiting(&self) -> usize {
         self.output.len() - self.written
