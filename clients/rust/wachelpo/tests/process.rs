@@ -14,7 +14,7 @@ use crate::cluster::Cluster;
 use crate::resp::{Connection, Reply};
 use std::fs;
 use std::io::{Read, Write};
-use std::net::TcpStream;
+use std::net::{Shutdown, TcpStream};
 use std::os::unix::fs::PermissionsExt;
 use std::os::unix::process::CommandExt;
 use std::path::{Path, PathBuf};
@@ -562,6 +562,23 @@ fn a_page_in_a_browser_writes_nothing() {
     stream.write_all(request).unwrap();
     assert_eq!(stream.read_to_end(&mut Vec::new()).unwrap_or(0), 0);
     assert_eq!(get(&cluster, "page"), None);
+}
+
+#[test]
+fn who_sends_nothing_more_is_answered() {
+    let cluster = begin("half", 1);
+    let answers = |requests: &str| {
+        let mut stream = TcpStream::connect(cluster.address(1)).unwrap();
+        stream.set_read_timeout(Some(LONG)).unwrap();
+        stream.write_all(requests.as_bytes()).unwrap();
+        stream.shutdown(Shutdown::Write).unwrap();
+        let mut text = String::new();
+        stream.read_to_string(&mut text).unwrap();
+        text
+    };
+    assert_eq!(answers("SET half 1\r\nGET half\r\n"), "+OK\r\n$1\r\n1\r\n");
+    assert_eq!(answers(&"INCR half\r\n".repeat(1000)).lines().last(), Some(":1001"));
+    assert_eq!(answers(""), "");
 }
 
 /// The system asks whether a silent client is still there: its connection has the timer for that.

@@ -47,6 +47,8 @@ impl Sockets {
                     is_new: true,
                     unread: 0,
                     asked: None,
+                    told: Instant::now(),
+                    ended: None,
                 })
             }
             PEERS => Role::Stranger(None),

@@ -48,6 +48,9 @@ const WRITTEN: usize = 8;
 const CONGESTED: usize = 64 << 20;
 /// How long a handshake may take, and a request for a page.
 const PATIENCE: Duration = Duration::from_secs(3);
+/// How long another answer to who sends nothing more is waited for, and the first one.
+const LAST_ANSWERS: Duration = Duration::from_millis(50);
+const UNANSWERED: Duration = Duration::from_secs(30);
 /// The most connections that are neither clients' nor known nodes'.
 const STRANGERS: usize = 128;
 /// How long it takes until a node is connected to again: twice as long each time.
@@ -141,6 +144,21 @@ struct Client {
     unread: usize,
     /// When its bytes came that aren't answered yet.
     asked: Option<Instant>,
+    /// When it was answered last.
+    told: Instant,
+    /// When it has said that it sends nothing more, if it has.
+    ended: Option<Instant>,
+}
+
+impl Client {
+    /// Whether nothing more is to be said to who sends nothing more. (Answers to what was asked together come soon one after another; half a
+    /// request has none.)
+    fn is_over(&self, now: Instant) -> bool {
+        let is_past = |since, patience| now.saturating_duration_since(since) >= patience;
+        let is_answered = self.asked.is_none() && is_past(self.told, LAST_ANSWERS);
+        self.ended
+            .is_some_and(|ended| is_answered || is_past(ended, UNANSWERED))
+    }
 }
 
 /// What a stranger has said, and was asked.
@@ -548,11 +566,20 @@ impl Sockets {
                 Role::Peer { .. } => false,
             }
         };
-        let late = |(slot, socket): (usize, &Option<Socket>)| socket.as_ref().filter(|it| is_late(it)).map(|_| slot);
-        let late: Vec<usize> = self.slots.iter().enumerate().filter_map(late).collect();
-        for slot in late {
+        for slot in self.slots_of(is_late) {
             self.close(slot, Some("it is silent".into()));
         }
+        for slot in self.slots_of(|it| matches!(&it.role, Role::Client(client) if client.is_over(now))) {
+            self.say(slot, &[], true);
+        }
+    }
+
+    fn slots_of(&self, is_meant: impl Fn(&Socket) -> bool) -> Vec<usize> {
+        let slots = self.slots.iter().enumerate();
+        slots
+            .filter(|(_, it)| it.as_ref().is_some_and(&is_meant))
+            .map(|(slot, _)| slot)
+            .collect()
     }
 
     fn connect_again(&mut self, now: Instant) {

@@ -1,6 +1,6 @@
 //! What comes over connections.
 
-use super::{Close, Role, Sockets, Step, SHARE};
+use super::{Client, Close, Role, Socket, Sockets, Step, SHARE};
 use crate::batch::Arrival;
 use crate::disk::Position;
 use crate::network::handshake::{CHALLENGE, HELLO, PROOF, VERDICT};
@@ -41,7 +41,7 @@ impl Sockets {
                 return Ok(());
             }
             let count = match socket.stream.read(&mut self.chunk) {
-                Ok(0) => return Err(Close(None)),
+                Ok(0) => return self.ended(slot),
                 Ok(count) => count,
                 Err(error) if error.kind() == ErrorKind::WouldBlock => {
                     socket.can_read = false;
@@ -71,6 +71,22 @@ impl Sockets {
                 socket.input.extend_from_slice(&self.chunk[..count]);
                 self.parse(slot)?;
             }
+        }
+    }
+
+    /// Nothing more comes: a client that waits for answers still gets them, as by Redis, and any other connection is closed.
+    fn ended(&mut self, slot: usize) -> Result<(), Close> {
+        match &mut self.slots[slot] {
+            Some(Socket {
+                role: Role::Client(client @ Client { asked: Some(_), .. }),
+                can_read,
+                ..
+            }) => {
+                client.ended = Some(self.looked);
+                *can_read = false;
+                Ok(())
+            }
+            _ => Err(Close(None)),
         }
     }
 

@@ -80,6 +80,7 @@ impl Sockets {
         };
         let Some(socket) = &mut self.slots[slot] else { return };
         if let Role::Client(client) = &mut socket.role {
+            client.told = self.looked;
             if let Some(asked) = client.asked.take() {
                 self.setup.metrics.answers.observe(asked.elapsed());
             }
