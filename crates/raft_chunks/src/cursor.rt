@@ -1,9 +1,9 @@
 //! Snapshots' titles, places in their bytes, and what a sender sends.
 
-ghost use Rattle.std.specs.Prelude.{◌≡◌};
+ghost use Rattle.std.specs.Prelude.{ℕ, ◌≡◌, ◌<◌, ◌^◌, ◌++◌, List, length};
 ghost use Rattle.raft_chunks.specs.Chunks.{chunk_at, followed, is_at_end, piece_of, same_title, start_of, title_of};
 
-use raft_frames::crc32c;
+use raft_frames::{crc32c, crc32c_append};
 
 /// What tells one snapshot from another.
 #[derive(Clone, Copy, PartialEq, Eq, Debug)]
@@ -25,6 +25,18 @@ impl Title {
             number,
             len: bytes.len() as u64,
             sum: crc32c(bytes),
+        }
+    }
+
+    /// The title of a snapshot of which this is the front's, and `bytes` are the rest. It sums these alone.
+    pub fn append(&self, bytes: &[u8]) -> Title
+        ensures { (number : ℕ) → (front : List ℕ) → self.now ≡ title_of number front → length (front ++ bytes.now) < 2 ^ 64
+            → result ≡ title_of number (front ++ bytes.now) }
+    {
+        Title {
+            number: self.number,
+            len: self.len.saturating_add(bytes.len() as u64),
+            sum: crc32c_append(self.sum, bytes),
         }
     }
 

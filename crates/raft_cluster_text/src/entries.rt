@@ -4,12 +4,13 @@ ghost use Rattle.std.specs.Prelude.{◌≡◌, IfOk, OnOk};
 ghost use Rattle.raft_codec.specs.Codec.{Reads, Writes};
 
 use raft_codec::{DecodeError, Reader};
-use raft_packed::Machine;
+use raft_packed::{Machine, Place};
 use raft_state::Items;
 use raft_store::{Entry, copy_entries};
 use raft_wire::Wire;
 use std::alloc::{AllocError, Global};
 use std::marker::Model;
+use std::num::NonZeroUsize;
 
 /// The entries that were applied, in their order.
 #[derive(Drop)]
@@ -28,7 +29,9 @@ impl Model for Entries {
 }
 
 impl Machine for Entries {
+    ghost use Rattle.std.specs.Prelude.{refl};
     ghost use Rattle.raft_codec.specs.Codec.{list};
+    ghost use Rattle.raft_packed.specs.Whole.{fits_whole, whole_left};
     ghost use Rattle.raft_wire.specs.Entries.{entry};
     ghost use Rattle.raft_wire.specs.EntryLaws.{entries_is};
     ghost use Rattle.raft_cluster_text.specs.Entries.{application};
@@ -38,6 +41,14 @@ impl Machine for Entries {
     ghost codec = { list entry };
 
     ghost is_codec = { entries_is };
+
+    ghost left = { whole_left (list entry) };
+
+    ghost fits_left = { fits_whole (list entry) };
+
+    ghost begins = { λ state. (refl, λ fits. fits) };
+
+    ghost ends = { λ state. (refl, tt) };
 
     fn new(alloc: Global) -> Entries {
         Entries {
@@ -59,6 +70,19 @@ impl Machine for Entries {
 
     fn encode(&self, out: &mut Vec<u8>) -> Result<(), AllocError> {
         self.entries.write(out)
+    }
+
+    fn encode_some(
+        &self,
+        at: Place,
+        _most: NonZeroUsize,
+        out: &mut Vec<u8>,
+    ) -> Result<Place, AllocError> {
+        match at {
+            Place::Front => self.encode(out)?,
+            _ => {}
+        }
+        Ok(Place::End)
     }
 
     fn decode(reader: &mut Reader<'_>) -> Result<Entries, DecodeError> {

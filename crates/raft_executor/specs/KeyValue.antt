@@ -17,6 +17,10 @@ use Rattle.raft_request_codec.specs.Requests.{request}
 use Rattle.raft_store.specs.declared.entry.Payload.{Payload}
 use Rattle.raft_store.specs.declared.entry.Payload.TheVariants.{Blank, Value, Membership}
 use Rattle.raft_store.specs.declared.entry.Value.TheVariants.{Number, Bytes}
+use Rattle.raft_machine.specs.declared.place.Place as machine
+use Rattle.raft_machine.specs.declared.place.Place.TheVariants as places
+use Rattle.raft_packed.specs.declared.place.Place.{Place}
+use Rattle.raft_packed.specs.declared.place.Place.TheVariants.{Front, Item, Count, End}
 use Rattle.raft_packed.specs.proof_packed_stores.Stores.{Application}
 use Rattle.raft_executor.specs.declared.key_value.TheConstants.{SESSIONS}
 
@@ -53,3 +57,10 @@ state_code =
 abbrev pub state_in : Option (Rc Machine Global) → State
 state_in None = started SESSIONS
 state_in (Some shared) = state_of shared.value
+
+-- a place of a state, by the machine's names
+abbrev pub place_in : Place → machine.Place
+place_in Front = places.Front
+place_in (Item key) = places.From key
+place_in (Count n) = places.Sessions n
+place_in End = places.End

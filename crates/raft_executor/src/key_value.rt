@@ -3,12 +3,14 @@
 ghost use Rattle.std.specs.Prelude.{◌≡◌, IfOk, OnOk};
 ghost use Rattle.raft_machine.specs.Commands.{answer};
 ghost use Rattle.raft_machine.specs.Machine.{apply, started, state_of};
-ghost use Rattle.raft_executor.specs.KeyValue.{ran, request_at, request_in, state_in};
+ghost use Rattle.raft_executor.specs.KeyValue.{place_in, ran, request_at, request_in, state_in};
 ghost use Rattle.raft_executor.specs.declared.key_value.TheConstants.{SESSIONS};
 
 use raft_codec::{DecodeError, Reader};
-use raft_machine::{Machine, Outcome, Query, Reply, Request};
+use raft_machine::{Key, Machine, Outcome, Query, Reply, Request};
+use raft_packed::Place;
 use raft_request_codec::decode_request;
+use raft_state::Items;
 use raft_store::{Entry, Payload, Value};
 use std::alloc::{AllocError, Global};
 use std::marker::Model;
@@ -108,6 +110,30 @@ fn run(
     }
 }
 
+/// A place by the machine's names.
+fn machine_place(at: Place) -> raft_machine::Place
+    ensures { result ≡ place_in at }
+{
+    match at {
+        Place::Front => raft_machine::Place::Front,
+        Place::Item(key) => raft_machine::Place::From(Key::from_items(key)),
+        Place::Count(count) => raft_machine::Place::Sessions(count),
+        Place::End => raft_machine::Place::End,
+    }
+}
+
+/// A place of the machine's.
+fn state_place(at: raft_machine::Place) -> Place
+    ensures { place_in result ≡ at }
+{
+    match at {
+        raft_machine::Place::Front => Place::Front,
+        raft_machine::Place::From(key) => Place::Item(Items::from_vec(key.into_vec())),
+        raft_machine::Place::Sessions(count) => Place::Count(count),
+        raft_machine::Place::End => Place::End,
+    }
+}
+
 impl KeyValue {
     /// Runs the request of an entry, and gives what comes of it: nothing if the entry holds none. Out of memory, nothing is promised of the
     /// state.
@@ -158,13 +184,23 @@ impl KeyValue {
 impl raft_packed::Machine for KeyValue {
     ghost use Rattle.raft_machine.specs.Bytes.{state};
     ghost use Rattle.raft_machine.specs.BytesLaws.{state_is};
-    ghost use Rattle.raft_executor.specs.KeyValue.{application};
+    ghost use Rattle.raft_machine.specs.Pieces.{FitsLeft, left};
+    ghost use Rattle.std.specs.Prelude.{refl};
+    ghost use Rattle.raft_executor.specs.KeyValue.{application, place_in};
 
     ghost application = { application };
 
     ghost codec = { state };
 
     ghost is_codec = { state_is };
+
+    ghost left = { λ state at. left state (place_in at) };
+
+    ghost fits_left = { λ state at. FitsLeft state (place_in at) };
+
+    ghost begins = { λ state. (refl, λ fits. fits) };
+
+    ghost ends = { λ state. (refl, tt) };
 
     fn new(alloc: Global) -> KeyValue {
         KeyValue {
@@ -194,6 +230,20 @@ impl raft_packed::Machine for KeyValue {
             Some(machine) => machine.write(out),
             None => start(self.alloc)?.write(out),
         }
+    }
+
+    fn encode_some(
+        &self,
+        at: Place,
+        most: NonZeroUsize,
+        out: &mut Vec<u8>,
+    ) -> Result<Place, AllocError> {
+        let at = machine_place(at);
+        let next = match &self.machine {
+            Some(machine) => machine.write_some(at, most, out)?,
+            None => start(self.alloc)?.write_some(at, most, out)?,
+        };
+        Ok(state_place(next))
     }
 
     fn decode(reader: &mut Reader<'_>) -> Result<KeyValue, DecodeError> {

@@ -12,3 +12,4 @@ pub mod Keys
 pub mod Scanning
 pub mod Iterations
 pub mod Counting
+pub mod Pieces

@@ -99,7 +99,7 @@ entries_rising m = true_of _ (rising_of_sorted (entries m) (entries_sorted m))
 pub entries_live : (m : Map) (now : ℕ) → AreLater m now → are_live now (entries m) ≡ true
 entries_live m now later = true_of _ (live_all now (entries m) (entries_sorted m) (λ k t p. later k t (ap expires (get-entries m k) ∙ p)))
 
-entries_kept : (m : Map) (now : ℕ) → AreLater m now → (are_rising (entries m) && are_live now (entries m)) ≡ true
+pub entries_kept : (m : Map) (now : ℕ) → AreLater m now → (are_rising (entries m) && are_live now (entries m)) ≡ true
 entries_kept m now later = true_of _ (both _ _ (holds _ (entries_rising m)) (holds _ (entries_live m now later)))
 
 pub space_written : {E : Type 0} (s : Space) (old mid new : List ℕ) (r : Result (Unit {0}) E) → AreLater s.map s.moment → number.fits s.moment × (mid ≡ old ++ number.bytes s.moment)

@@ -10,3 +10,4 @@ pub mod Failure
 pub mod Laws
 pub mod Bytes
 pub mod BytesLaws
+pub mod Pieces

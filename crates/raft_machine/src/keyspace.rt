@@ -1,10 +1,11 @@
 //! The keys that there are at a moment.
 
-ghost use Rattle.std.specs.Prelude.{◌≡◌, ◌↔◌, false, true, Some, None, IsTrue, OnOk, OnErr, IfOk, IfSome, if◌then◌else◌};
+ghost use Rattle.std.specs.Prelude.{◌≡◌, ◌≤◌, ◌↔◌, length, IsSome, false, true, Some, None, IsTrue, OnOk, OnErr, IfOk, IfSome, if◌then◌else◌};
 ghost use Rattle.std.specs.Option.{option_copied};
 ghost use Rattle.std.specs.FinMap as map;
 ghost use Rattle.raft_codec.specs.Codec.{Writes, Reads};
-ghost use Rattle.raft_machine.specs.Bytes.{space, is_before, are_rising, are_live};
+ghost use Rattle.raft_machine.specs.Bytes.{entry, space, is_before, are_rising, are_live};
+ghost use Rattle.raft_machine.specs.Pieces.{WritesFront, WritesUpto, from, from_next};
 ghost use Rattle.raft_machine.specs.Scans.{scan};
 ghost use Rattle.raft_machine.specs.Commands.{sum_at, counted};
 ghost use Rattle.raft_machine.specs.Space.{AreNoted, AreLater, alive, lives, advanced, put, without, deadline_of};
@@ -283,6 +284,31 @@ impl Keyspace {
     {
         write_number(out, self.moment)?;
         self.table.write(out)
+    }
+
+    /// Appends the moment, and how many keys there are: what stands before them.
+    pub(crate) fn write_front(&self, out: &mut Vec<u8>) -> Result<(), AllocError>
+        ensures front { OnOk result (WritesFront self.now out.old.items out.new.items) }
+        ensures more { OnOk result (length out.old.items ≤ length out.new.items) }
+    {
+        write_number(out, self.moment)?;
+        write_number(out, self.table.len() as u64)
+    }
+
+    /// Appends keys in order from one on, with what is stored at each, until there are so many bytes: the key that comes next, unless all are
+    /// written.
+    pub(crate) fn write_from(
+        &self,
+        first: Key,
+        limit: usize,
+        out: &mut Vec<u8>,
+    ) -> Result<Option<Key>, AllocError>
+        ensures next { IfOk result (λ next. WritesUpto entry (from first (map.entries self.now.map)) (from_next next (map.entries self.now.map))
+            out.old.items out.new.items) }
+        ensures more { OnOk result (length out.old.items ≤ length out.new.items) }
+        ensures full { IfOk result (λ next. IsSome next → limit ≤ length out.new.items) }
+    {
+        self.table.write_from(first, limit, out)
     }
 
     /// Reads a moment, and its keys.

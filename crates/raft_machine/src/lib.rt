@@ -12,6 +12,7 @@ mod keyspace;
 mod laws;
 mod machine;
 pub mod numbers;
+mod place;
 mod queries;
 mod replies;
 mod scans;
@@ -31,6 +32,7 @@ pub use laws::{
     scans_miss_no_key, states_are_read_back,
 };
 pub use machine::{Answered, Machine, Outcome, Request, Session};
+pub use place::Place;
 pub use raft_codec::{DecodeError, Fault};
 pub use raft_state::Items;
 pub use stored::Stored;

@@ -1,19 +1,23 @@
 //! The state machine: keys, and what each client was last answered.
 
-ghost use Rattle.std.specs.Prelude.{◌≡◌, IfOk, OnOk, nat_eq};
+ghost use Rattle.std.specs.Prelude.{◌≡◌, ◌<◌, ◌⊎◌, IfOk, OnOk, length, nat_eq};
 ghost use Rattle.std.specs.Map.{lookup};
 ghost use Rattle.std.specs.NonZero.{non_zero_usize_get};
 ghost use Rattle.raft_codec.specs.Codec.{Writes, Finds, FindsWhole, IsFoundBy};
 ghost use Rattle.raft_machine.specs.Bytes.{state};
 ghost use Rattle.raft_machine.specs.Machine.{State, state_of, started, apply, known, known_of, remembered};
+ghost use Rattle.raft_machine.specs.Pieces.{GoesOn};
 ghost use Rattle.raft_machine.specs.Space.{advanced};
+ghost use Rattle.raft_machine.specs.declared.place.Place.TheVariants.{End, From, Front, Sessions};
 ghost use Rattle.raft_machine.specs.Commands.{answer, run_all};
 
 use crate::command::{Command, Query, Reply};
+use crate::key::Key;
 use crate::keyspace::Keyspace;
+use crate::place::Place;
 use crate::queries;
 use crate::replies::copy_all;
-use crate::sessions::{copy_sessions, read_sessions, write_sessions};
+use crate::sessions::{self, copy_sessions, read_sessions, write_sessions};
 use crate::updates::run_all;
 use lru::LruCache;
 use raft_codec::{DecodeError, Fault, Reader};
@@ -217,6 +221,73 @@ impl Machine {
         out.push(VERSION)?;
         self.keyspace.write(out)?;
         write_sessions(out, &self.sessions)
+    }
+
+    /// Appends what stands before the keys.
+    fn write_front(&self, out: &mut Vec<u8>) -> Result<Place, AllocError>
+        ensures next { IfOk result (λ next. GoesOn (state_of self.now) Front next out.old.items out.new.items) }
+        ensures more { OnOk result (length out.old.items < length out.new.items) }
+    {
+        out.push(VERSION)?;
+        self.keyspace.write_front(out)?;
+        // no key is below the one without bytes
+        Ok(Place::From(Key::from_vec(Vec::new(*out.allocator()))))
+    }
+
+    /// Appends keys from one on until there are so many bytes, or else what stands before what clients were answered.
+    #[tactic(auto, using(crate::proofs::Pieces::keys_on, crate::proofs::Pieces::last_on))]
+    fn write_keys(&self, first: Key, limit: usize, out: &mut Vec<u8>) -> Result<Place, AllocError>
+        requires { length out.old.items < limit }
+        ensures next { IfOk result (λ next. GoesOn (state_of self.now) (From first) next out.old.items out.new.items) }
+        ensures more { OnOk result (length out.old.items < length out.new.items) }
+    {
+        match self.keyspace.write_from(first, limit, out)? {
+            Some(next) => Ok(Place::From(next)),
+            None => {
+                sessions::write_front(out, &self.sessions)?;
+                Ok(Place::Sessions(0))
+            }
+        }
+    }
+
+    /// Appends what clients were answered, so many left out, until there are so many bytes.
+    #[tactic(auto, using(crate::proofs::Pieces::sessions_on, crate::proofs::Pieces::sessions_end))]
+    fn write_answered(
+        &self,
+        count: usize,
+        limit: usize,
+        out: &mut Vec<u8>,
+    ) -> Result<Place, AllocError>
+        requires { length out.old.items < limit }
+        ensures next { IfOk result (λ next. GoesOn (state_of self.now) (Sessions count) next out.old.items out.new.items) }
+        ensures more { IfOk result (λ next. (next ≡ End) ⊎ (length out.old.items < length out.new.items)) }
+    {
+        let next = sessions::write_upto(out, limit, &self.sessions, count)?;
+        if next < self.sessions.len() {
+            Ok(Place::Sessions(next))
+        } else {
+            Ok(Place::End)
+        }
+    }
+
+    /// Appends the next bytes of the state, some `most` of them: where they go on. From [`Place::Front`] to [`Place::End`] they are those that
+    /// [`Machine::write`] appends.
+    pub fn write_some(
+        &self,
+        at: Place,
+        most: NonZeroUsize,
+        out: &mut Vec<u8>,
+    ) -> Result<Place, AllocError>
+        ensures next { IfOk result (λ next. GoesOn (state_of self.now) at next out.old.items out.new.items) }
+        ensures more { IfOk result (λ next. (next ≡ End) ⊎ (length out.old.items < length out.new.items)) }
+    {
+        let limit = out.len().saturating_add(most.get());
+        match at {
+            Place::Front => self.write_front(out),
+            Place::From(first) => self.write_keys(first, limit, out),
+            Place::Sessions(count) => self.write_answered(count, limit, out),
+            Place::End => Ok(Place::End),
+        }
     }
 
     /// Reads the state at the front, as [`Machine::decode`] reads one that is all.

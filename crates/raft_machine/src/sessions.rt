@@ -1,10 +1,11 @@
 //! What clients were answered, as bytes.
 
-ghost use Rattle.std.specs.Prelude.{◌≡◌, ◌≤◌, ◌++◌, length, IfOk, OnOk, Some, None, ◌&&◌, if◌then◌else◌};
+ghost use Rattle.std.specs.Prelude.{◌≡◌, ◌<◌, ◌≤◌, ◌++◌, drop, length, IfOk, OnOk, Some, None, ◌&&◌, if◌then◌else◌};
 ghost use Rattle.std.specs.NonZero.{non_zero_usize_get};
 ghost use Rattle.lru.specs.LruCache.{lru_cache};
 ghost use Rattle.raft_codec.specs.Codec.{Writes, WritesEach, Reads};
 ghost use Rattle.raft_machine.specs.Bytes.{are_bounded, are_distinct, session, sessions};
+ghost use Rattle.raft_machine.specs.Pieces.{WritesSessionsFront, WritesUpto};
 
 use crate::form::read_items;
 use crate::forms::write_session;
@@ -35,6 +36,41 @@ pub(crate) fn write_sessions(
     write_number(out, cache.cap().get() as u64)?;
     write_number(out, cache.len() as u64)?;
     write_each(out, cache)
+}
+
+/// Appends how many clients are remembered, and how many there are: what stands before them.
+pub(crate) fn write_front(
+    out: &mut Vec<u8>,
+    cache: &LruCache<u64, Answered>,
+) -> Result<(), AllocError>
+    ensures front { OnOk result (WritesSessionsFront cache.now out.old.items out.new.items) }
+    ensures more { OnOk result (length out.old.items < length out.new.items) }
+{
+    write_number(out, cache.cap().get() as u64)?;
+    write_number(out, cache.len() as u64)
+}
+
+/// Appends sessions, the latest first and so many left out, until there are so many bytes: how many are to be left out next.
+pub(crate) fn write_upto(
+    out: &mut Vec<u8>,
+    limit: usize,
+    cache: &LruCache<u64, Answered>,
+    count: usize,
+) -> Result<usize, AllocError>
+    ensures next { IfOk result (λ next. WritesUpto session (drop count cache.now.entries) (drop next cache.now.entries) out.old.items out.new.items) }
+    ensures full { IfOk result (λ next. next < length cache.now.entries → limit ≤ length out.new.items) }
+{
+    let mut next = 0;
+    for (client, answered) in cache.iter() {
+        if next >= count {
+            if out.len() >= limit {
+                return Ok(next);
+            }
+            write_session(out, *client, answered)?;
+        }
+        next += 1;
+    }
+    Ok(next)
 }
 
 /// A cache of these sessions, the latest first, or nothing if a client is there twice.

@@ -1,12 +1,13 @@
 //! A map from keys to what is stored at them.
 
-ghost use Rattle.std.specs.Prelude.{◌≡◌, ◌++◌, OnOk, OnErr, IfOk, IfSome};
+ghost use Rattle.std.specs.Prelude.{◌≡◌, ◌≤◌, ◌++◌, length, OnOk, OnErr, IfOk, IfSome, IsSome};
 ghost use Rattle.std.specs.Option.{option_copied, option_map};
 ghost use Rattle.std.specs.FinMap as map;
 ghost use Rattle.raft_codec.specs.Codec.{Writes, WritesEach, list};
 ghost use Rattle.raft_machine.specs.Bytes.{entry};
 ghost use Rattle.raft_machine.specs.Scans.{scan};
 ghost use Rattle.raft_machine.specs.Commands.{sum_at, added_at};
+ghost use Rattle.raft_machine.specs.Pieces.{BeginsAt, EndsWith, Entries, WritesUpto, from, from_next};
 
 use crate::command::{Failure, Page, ScanOptions};
 use crate::cursors::first_at;
@@ -18,6 +19,7 @@ use raft_codec::write_number;
 use raft_state::Items;
 use std::alloc::{AllocError, Global};
 use std::collections::BTreeMap;
+use std::collections::btree_map::Range;
 use std::marker::Model;
 
 /// Appends each key in order, with what is stored there.
@@ -28,6 +30,26 @@ fn write_each(out: &mut Vec<u8>, entries: &BTreeMap<Key, Stored>) -> Result<(), 
         write_entry(out, key.as_slice(), stored)?;
     }
     Ok(())
+}
+
+/// Appends keys in order, with what is stored at each, until there are so many bytes: the key that comes next, unless all are written.
+fn write_upto(
+    out: &mut Vec<u8>,
+    limit: usize,
+    entries: Range<'_, Key, Stored>,
+) -> Result<Option<Key>, AllocError>
+    ensures next { IfOk result (λ next. (rest : Entries) × EndsWith entries.entry rest × BeginsAt rest next
+        × WritesUpto entry entries.entry rest out.old.items out.new.items) }
+    ensures more { OnOk result (length out.old.items ≤ length out.new.items) }
+    ensures full { IfOk result (λ next. IsSome next → limit ≤ length out.new.items) }
+{
+    for (key, stored) in entries {
+        if out.len() >= limit {
+            return Ok(Some(Key::from_vec(key.copy_bytes()?)));
+        }
+        write_entry(out, key.as_slice(), stored)?;
+    }
+    Ok(None)
 }
 
 /// A copy of a key, and of what is stored there.
@@ -162,5 +184,21 @@ impl Table {
     {
         write_number(out, self.entries.len() as u64)?;
         write_each(out, &self.entries)
+    }
+
+    /// Appends keys in order from one on, with what is stored at each, until there are so many bytes: the key that comes next, unless all are
+    /// written.
+    pub fn write_from(
+        &self,
+        first: Key,
+        limit: usize,
+        out: &mut Vec<u8>,
+    ) -> Result<Option<Key>, AllocError>
+        ensures next { IfOk result (λ next. WritesUpto entry (from first (map.entries self.now)) (from_next next (map.entries self.now))
+            out.old.items out.new.items) }
+        ensures more { OnOk result (length out.old.items ≤ length out.new.items) }
+        ensures full { IfOk result (λ next. IsSome next → limit ≤ length out.new.items) }
+    {
+        write_upto(out, limit, self.entries.range(first..))
     }
 }

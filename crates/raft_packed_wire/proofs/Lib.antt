@@ -7,3 +7,4 @@ pub mod Standing
 mod Steps
 pub mod Ordered
 pub mod Checkpoints
+pub mod Pieces

@@ -6,3 +6,4 @@ pub mod Named
 pub mod Messages
 pub mod Laws
 pub mod Checkpoints
+pub mod Pieces

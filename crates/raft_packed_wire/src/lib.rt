@@ -17,9 +17,9 @@ mod replay;
 mod step;
 
 pub use checkpoint::write_checkpoint;
-pub use laws::{checkpoints_restore, packs_replays, records_are_read_back};
+pub use laws::{checkpoints_restore, packs_replays, pieces_are_whole, records_are_read_back};
 pub use named::Named;
-pub use packed::{read_packed, write_packed};
+pub use packed::{PackedPlace, read_packed, write_packed, write_packed_some};
 pub use packet::{PackedContent, PackedPacket, SentMessage, SentPart};
 pub use record::{NamedRecord, PackedBegan, PackedChange, PackedRecord, write_built};
 pub use step::write_change;

@@ -2,6 +2,7 @@
 //!
 //! - `receiver HELD`: begins with a receiver that has the snapshot of so many entries, and nothing of another
 //! - `snapshot NUMBER HEX`: what is sent from now on; prints its length and its sum
+//! - `append HEX`: more bytes of it, behind those before; prints the same
 //! - `seek OFFSET`: puts the sender's cursor elsewhere
 //! - `send MOST`: makes the chunk at the cursor; `show`: prints its bytes; `flip AT`: turns a bit in them; `sent HEX`: puts others in their place
 //! - `receive`: the receiver takes the chunk: prints the whole snapshot in `<>`, `taken` or a refusal; and where the sender goes on
@@ -17,6 +18,7 @@ fn step(alloc: Global, transfer: &mut Transfer, words: &[&str], given: &mut Vec<
         ["snapshot", number, bytes] => {
             transfer.load(number.parse()?, hex::decode(alloc, *bytes)?, given)?;
         }
+        ["append", bytes] => transfer.append(&hex::decode(alloc, *bytes)?, given)?,
         ["seek", offset] => transfer.seek(offset.parse()?),
         ["send", most] => transfer.send(most.parse()?)?,
         ["show"] => put_line(hex::encode(alloc, transfer.sent())?, given)?,

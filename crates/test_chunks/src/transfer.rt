@@ -47,8 +47,20 @@ impl Transfer {
     /// Begins to send another snapshot.
     pub fn load(&mut self, number: u64, snapshot: Vec<u8>, given: &mut Vec<u8>) -> Result<()> {
         let title = Title::of(number, &snapshot);
-        self.cursor = Cursor::start(title);
         self.snapshot = snapshot;
+        self.begin(title, given)
+    }
+
+    /// Begins to send the snapshot with more bytes behind its own.
+    pub fn append(&mut self, bytes: &[u8], given: &mut Vec<u8>) -> Result<()> {
+        let title = self.cursor.title.append(bytes);
+        self.snapshot.extend_from_slice(bytes)?;
+        self.begin(title, given)
+    }
+
+    /// Begins to send what has this title.
+    fn begin(&mut self, title: Title, given: &mut Vec<u8>) -> Result<()> {
+        self.cursor = Cursor::start(title);
         let (len, sum) = (title.len, title.sum);
         put_line(format_args!("{len} bytes, sum {sum:08x}"), given)
     }
