@@ -1,7 +1,10 @@
 -- What is handed out makes the file of the model's server.
 use Rattle.std.proofs.Common.{ℕ, ◌≡◌, ◌≤◌, ◌∙◌, List, [], ◌∷◌, ◌++◌, length, None, Some, refl, sym, ap, subst, append_assoc, arith, inl, inr}
-use Rattle.std.specs.Prelude.{◌⊎◌, map}
+use Rattle.std.specs.Global.{Vec}
+use Rattle.std.specs.Option.{option_map}
+use Rattle.std.specs.Prelude.{◌⊎◌, Option, map}
 use Rattle.std.proofs.lemmas.List.{append-nil, map-append, take_all}
+use Rattle.raft_frames.specs.declared.header.LogId.{LogId}
 use Rattle.raft_frames.specs.declared.tail.Tail.{Tail}
 use Rattle.raft_frames.specs.Format.{after, after_all, frame, frames, header, start}
 use Rattle.raft_codec.specs.Codec.{Codec}
@@ -12,11 +15,12 @@ use Rattle.raft_packed_wire.specs.declared.record.NamedRecord.{NamedRecord}
 use Rattle.raft_packed_wire.specs.Named.{StandFor}
 use Rattle.raft_packed_wire.proofs.Standing.{stand_join}
 use Rattle.proof_packed_servers.specs.Servers.{PackedDisk, PackedServer, packed_flushed_first, packed_new_disk, packed_with_records}
+use Rattle.raft_packed_server.specs.declared.batch.Written.{Written}
 use Rattle.raft_packed_server.specs.declared.serving.Serving.{Serving}
-use Rattle.raft_packed_server.specs.Laws.{WritesLog}
+use Rattle.raft_packed_server.specs.Laws.{WritesLog, WritesNextLog, for_next}
 use Rattle.raft_packed_server.specs.Logs.{HasLog, first_records, left_by, logged_by}
-use Rattle.raft_packed_server.specs.Represents.{AreUnwritten, Stands}
-use Rattle.raft_packed_server.specs.Views.{header_of, with_batch}
+use Rattle.raft_packed_server.specs.Represents.{AreUnwritten, IsHandedOut, Stands}
+use Rattle.raft_packed_server.specs.Views.{header_of}
 use Rattle.raft_packed_server.proofs.Waiting.{flushed_disk, store_made, unwritten, with_more}
 
 -- ---- frames
@@ -79,32 +83,44 @@ first_is app c s v none stands batch = record {
     are : AreUnwritten app s.disk v s.waiting
     are = unwritten app s v none stands
 
+-- so a log with them makes the disk on which what these steps leave is
+has_more : {S : Type 0} (app : Application S) (c : Codec S) (s : PackedServer S) (batches : List (List (NamedRecord S))) (v : Serving S) (w : Written)
+    → HasLog app c s batches → Stands app s v → IsHandedOut c v w → HasLog app c (packed_flushed_first app v.steps s) (batches ++ v.records ∷ [])
+has_more app c s batches v w has stands out =
+    let first : AreFirst app s v = first_is app c s v out.none_before stands out.batch in
+    subst (λ more. HasLog app c (packed_flushed_first app v.steps s) (batches ++ more)) first.batch
+    (log_more app c v.steps s batches v.records has (subst (AreBatchesOf (logged_by c)) (sym first.batch) (out.batch, tt)) first.stand)
+
+-- a file that goes on with their frame, behind its batches
+module _ {S : Type 0} (c : Codec S) (log : LogId) (batches : List (List (NamedRecord S))) (records : List (NamedRecord S)) where
+  abbrev its_end : Tail
+  its_end = after_all (start log) (map (bytes_of (logged_by c)) batches)
+
+  abbrev payload : List ℕ
+  payload = bytes_of (logged_by c) records
+
+  both : map (bytes_of (logged_by c)) (batches ++ records ∷ []) ≡ map (bytes_of (logged_by c)) batches ++ payload ∷ []
+  both = map-append (bytes_of (logged_by c)) batches (records ∷ [])
+
+  end_more : after its_end payload ≡ after_all (start log) (map (bytes_of (logged_by c)) (batches ++ records ∷ []))
+  end_more = sym (after_more (start log) (map (bytes_of (logged_by c)) batches) payload) ∙ ap (after_all (start log)) (sym both)
+
+  file_more : file_of (logged_by c) log batches ++ frame its_end payload ≡ file_of (logged_by c) log (batches ++ records ∷ [])
+  file_more =
+      append_assoc (header log) (frames (start log) (map (bytes_of (logged_by c)) batches)) (frame its_end payload)
+      ∙ ap (λ x. header log ++ x) (frames_more (start log) (map (bytes_of (logged_by c)) batches) payload ∙ ap (frames (start log)) (sym both))
+
 pub writes_log : {S : Type 0} (app : Application S) (c : Codec S) → WritesLog app c
 writes_log {S = S} app c log s batches file v w has stands here out = (
-  subst (λ more. HasLog app c (packed_flushed_first app v.steps s) (batches ++ more)) first.batch
-      (log_more app c v.steps s batches v.records has (subst (AreBatchesOf (logged_by c)) (sym first.batch) (out.batch, tt)) first.stand),
-  record { file = inr (go here.file, refl); tail = tail },
+  has_more app c s batches v w has stands out,
+  record { file = inr (go here.file, refl); tail = ap (λ t. after t p) here.tail ∙ end_more c log batches v.records },
 )
   where
-    first : AreFirst app s v
-    first = first_is app c s v out.none_before stands out.batch
-
     p : List ℕ
     p = bytes_of (logged_by c) v.records
 
-    both : map (bytes_of (logged_by c)) (batches ++ v.records ∷ []) ≡ map (bytes_of (logged_by c)) batches ++ p ∷ []
-    both = map-append (bytes_of (logged_by c)) batches (v.records ∷ [])
-
-    tail : (with_batch c v).tail ≡ after_all (start log) (map (bytes_of (logged_by c)) (batches ++ v.records ∷ []))
-    tail = ap (λ t. after t p) here.tail ∙ (sym (after_more (start log) (map (bytes_of (logged_by c)) batches) p)
-        ∙ ap (after_all (start log)) (sym both))
-
     whole : file_of (logged_by c) log batches ++ frame v.tail p ≡ file_of (logged_by c) log (batches ++ v.records ∷ [])
-    whole =
-        ap (λ t. file_of (logged_by c) log batches ++ frame t p) here.tail
-        ∙ (append_assoc (header log) (frames (start log) (map (bytes_of (logged_by c)) batches))
-        (frame (after_all (start log) (map (bytes_of (logged_by c)) batches)) p)
-        ∙ ap (λ x. header log ++ x) (frames_more (start log) (map (bytes_of (logged_by c)) batches) p ∙ ap (frames (start log)) (sym both)))
+    whole = ap (λ t. file_of (logged_by c) log batches ++ frame t p) here.tail ∙ file_more c log batches v.records
 
     go : ((file ≡ []) × (batches ≡ []) × (v.header ≡ Some log)) ⊎ ((file ≡ file_of (logged_by c) log batches) × (v.header ≡ None))
         → file ++ w.bytes.items ≡ file_of (logged_by c) log (batches ++ v.records ∷ [])
@@ -117,3 +133,28 @@ writes_log {S = S} app c log s batches file v w has stands here out = (
     go (inr old) =
         ap (λ x. x ++ w.bytes.items) old.0
         ∙ (ap (λ x. file_of (logged_by c) log batches ++ x) (out.bytes ∙ ap (λ h. header_of h ++ frame v.tail p) old.1) ∙ whole)
+
+-- ---- and for a new log that is on its way
+
+items_of : (o : Option (Vec ℕ)) (bytes : List ℕ) → option_map (λ b. b.items) o ≡ Some bytes
+    → (elim o as (λ _. List ℕ) [ None ↦ [] | Some b ↦ b.items ]) ≡ bytes
+items_of None bytes is = absurd cc
+items_of (Some b) bytes is = cc
+
+pub writes_next_log : {S : Type 0} (app : Application S) (c : Codec S) → WritesNextLog app c
+writes_next_log {S = S} app c log s batches file v w has stands here out = (
+  has_more app c s batches v w has stands out,
+  record {
+    file =
+        ap (λ x. x ++ for_next w) here.file
+        ∙ (ap (λ x. file_of (logged_by c) log batches ++ x) wrote ∙ file_more c log batches v.records);
+    next = ap (option_map (λ t. after t p)) here.next ∙ ap Some (end_more c log batches v.records);
+  },
+)
+  where
+    p : List ℕ
+    p = bytes_of (logged_by c) v.records
+
+    wrote : for_next w ≡ frame (after_all (start log) (map (bytes_of (logged_by c)) batches)) p
+    wrote = items_of w.next (frame (after_all (start log) (map (bytes_of (logged_by c)) batches)) p)
+        (out.next ∙ ap (option_map (λ t. frame t p)) here.next)

@@ -51,6 +51,7 @@ before_start id d header tail =
       outputs = nothing_recorded;
       header = header;
       tail = tail;
+      next = None;
     }
 
 module _ {S : Type 0} (app : Application S) where
@@ -102,7 +103,9 @@ module _ {S : Type 0} (app : Application S) (given : Given) (id : ℕ) (at : ℕ
         (stands_alike app (packed_started app given id at d) e after same.store
         (subst (λ (p : Outcome × Serving S). Stands app (packed_started app given id at d) p.1) (sym now.is)
         (takes app given (start_step app at d) now.named (stopped_on app id d) (before_start id d header tail) stopped now.stand)));
-    goes_on = subst (λ (p : Outcome × Serving S). GoesOnAt p.1 header tail) (sym now.is) (record { header = refl; tail = refl; idle = refl });
+    goes_on =
+        subst (λ (p : Outcome × Serving S). GoesOnAt p.1 header tail) (sym now.is)
+        (record { header = refl; tail = refl; idle = refl; alone = refl });
   }
     where
       now : IsTaken app given (start_step app at d) (before_start id d header tail) outcome after

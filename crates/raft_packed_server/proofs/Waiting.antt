@@ -5,6 +5,7 @@ use Rattle.std.specs.Prelude.{◌≢◌, ◌≤◌, ◌+◌, ◌⊎◌, Bool, tr
 use Rattle.std.proofs.lemmas.List.Sums.{fold-append}
 use Rattle.std.proofs.lemmas.List.{append-nil, length-append, take_all, take-append-le, drop_all, drop-append-le}
 use Rattle.raft_frames.specs.declared.header.LogId.{LogId}
+use Rattle.raft_frames.specs.declared.tail.Tail.{Tail}
 use Rattle.raft_schedule.specs.declared.event.Outcome.{Outcome}
 use Rattle.raft_node.specs.declared.given.Given.{Given}
 use Rattle.raft_codec.specs.Codec.{Codec}
@@ -117,18 +118,19 @@ module _ {S : Type 0} where
       → ◌≡◌ {A = PackedRecords S × Serving S} (said, v) (rest_released v)
   kept_behind_record v said some none = unclear_kept v said (record_unclear v.written v.records some) none
 
-  -- a server that goes on at the same place, behind the same batch
+  -- a server that goes on at the same places, behind the same batch
   pub record IsBeside (v u : Serving S) : Type 0 where
     pub header : u.header ≡ v.header
     pub tail : u.tail ≡ v.tail
     pub written : u.written ≡ v.written
+    pub next : u.next ≡ v.next
 
   pub rest_beside : (v : Serving S) → IsBeside v (rest_released v).1
   rest_beside v = go (is_clear v.written v.records)
     where
       go : (b : Bool) → IsBeside v (rest_by v b).1
-      go true = record { header = refl; tail = refl; written = refl }
-      go false = record { header = refl; tail = refl; written = refl }
+      go true = record { header = refl; tail = refl; written = refl; next = refl }
+      go false = record { header = refl; tail = refl; written = refl; next = refl }
 
   -- the node stays as it is
   abbrev batch_by : ℕ → Serving S → Option (Batch S) → PackedRecords S × Serving S
@@ -522,6 +524,31 @@ module _ {S : Type 0} (app : Application S) where
           ordered = subst (λ (n : PackedNode S). AreInOrder 0 n.store.log) (sym (flushed_node (j + k) s)) is.ordered;
         },
       )
+
+  -- ---- where logs end is nothing to the model's server
+
+  abbrev placed : Option LogId → Tail → Option Tail → Serving S → Serving S
+  placed header tail next v = record v { header = header; tail = tail; next = next }
+
+  unwritten_placed : (header : Option LogId) (tail : Tail) (next : Option Tail) (d : PackedDisk S) (v : Serving S) (ws : List (PackedWaitingStep S))
+      → AreUnwritten app d v ws → AreUnwritten app d (placed header tail next v) ws
+  unwritten_placed header tail next d v ws are = record { steps = are.steps; records = are.records; outputs = are.outputs }
+
+  waiting_placed : (header : Option LogId) (tail : Tail) (next : Option Tail) (o : Option (Batch S)) (d : PackedDisk S) (v : Serving S)
+      (ws : List (PackedWaitingStep S)) → AreWaiting app o d v ws → AreWaiting app o d (placed header tail next v) ws
+  waiting_placed header tail next None d v ws are = unwritten_placed header tail next d v ws are
+  waiting_placed header tail next (Some b) d v ws are =
+      (are.0, unwritten_placed header tail next (packed_with_records app (first_records b.steps ws) d) v (drop b.steps ws) are.1)
+
+  pub stands_placed : (header : Option LogId) (tail : Tail) (next : Option Tail) (s : PackedServer S) (v : Serving S) → Stands app s v
+      → Stands app s (placed header tail next v)
+  stands_placed header tail next s v is = record {
+    node = is.node;
+    reserved = is.reserved;
+    waiting = waiting_placed header tail next v.written s.disk v s.waiting is.waiting;
+    same = is.same;
+    ordered = is.ordered;
+  }
 
   -- ---- another disk that is the same, but for what no start reads
 

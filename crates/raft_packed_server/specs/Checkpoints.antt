@@ -1,6 +1,8 @@
--- A server goes on with a new log, which begins with a checkpoint: so what its old log had can be dropped (Raft paper, section 7).
-use Rattle.std.specs.Prelude.{◌≡◌, List, [], ◌∷◌, Option, None, Some}
+-- A server goes on with a new log, which begins with a checkpoint: so what its old log had can be dropped (Raft paper, section 7). The new log is
+-- made beside the old one, which goes on meanwhile: what is handed out then goes behind both, until the new one takes the old one's place.
+use Rattle.std.specs.Prelude.{ℕ, ◌≡◌, ◌⊎◌, List, [], ◌∷◌, IsSome, Option, None, Some}
 use Rattle.raft_frames.specs.declared.header.LogId.{LogId}
+use Rattle.raft_frames.specs.declared.tail.Tail.{Tail}
 use Rattle.raft_frames.specs.Format.{after, start}
 use Rattle.raft_codec.specs.Codec.{Codec}
 use Rattle.proof_logs.specs.Batches.{IsBatchOf, bytes_of, file_of}
@@ -11,7 +13,7 @@ use Rattle.proof_packed_servers.specs.Checkpoints.{packed_checkpointed, packed_l
 use Rattle.proof_packed_servers.specs.Servers.{PackedServer}
 use Rattle.raft_packed_server.specs.declared.batch.Written.{Written}
 use Rattle.raft_packed_server.specs.declared.serving.Serving.{Serving}
-use Rattle.raft_packed_server.specs.Laws.{IsAtEnd}
+use Rattle.raft_packed_server.specs.Laws.{IsAtEnd, IsAtNextEnd}
 use Rattle.raft_packed_server.specs.Logs.{HasLog, logged_by}
 use Rattle.raft_packed_server.specs.Represents.{Stands}
 
@@ -27,31 +29,73 @@ abbrev pub IsClear : {S : Type 0} → Serving S → Type 0
 IsClear v = (v.written ≡ None) × (v.records ≡ [])
 
 module _ {S : Type 0} (c : Codec S) where
-  -- the next frame goes behind it
-  abbrev pub with_new_log : LogId → Serving S → Serving S
-  with_new_log log v = record v { header = None; tail = after (start log) (bytes_of (logged_by c) (first_batch v)) }
+  -- the next frame goes behind it in the new log, which is on its way from then on; where the old one ends stays as it is
+  abbrev pub behind_first : LogId → Serving S → Tail
+  behind_first log v = after (start log) (bytes_of (logged_by c) (first_batch v))
+
+  abbrev pub with_next_log : LogId → Serving S → Serving S
+  with_next_log log v = record v { next = Some (behind_first log v) }
 
   -- a new log is handed out whole: its bytes, from the first on, and where they end
   pub record IsNewLog (log : LogId) (old : Serving S) (w : Written) : Type 0 where
     pub clear : IsClear old
     pub batch : IsBatchOf (logged_by c) (first_batch old)
     pub bytes : w.bytes.items ≡ file_of (logged_by c) log (first_batch old ∷ [])
-    pub end : w.end ≡ (with_new_log log old).tail.position
+    pub end : w.end ≡ (behind_first log old).position
+    pub alone : w.next ≡ None
 
   -- none is while a frame is on its way, or a record waits
   abbrev pub BeginsLog : LogId → Option (Serving S) → Option Written → Option (Serving S) → Type 0
   BeginsLog log None w new = ⊥
   BeginsLog log (Some old) None new = (IsClear old → ⊥) × (new ≡ Some old)
-  BeginsLog log (Some old) (Some w) new = IsNewLog log old w × (new ≡ Some (with_new_log log old))
+  BeginsLog log (Some old) (Some w) new = IsNewLog log old w × (new ≡ Some (with_next_log log old))
+
+module _ {S : Type 0} where
+  -- no new log is on its way any more
+  abbrev pub without_next_log : Serving S → Serving S
+  without_next_log v = record v { next = None }
+
+  -- the new log has the old one's place: the next frame goes there, and nowhere else
+  abbrev pub with_log_at : Tail → Serving S → Serving S
+  with_log_at place v = record v { header = None; tail = place; next = None }
+
+  -- It takes that with all that was handed out, and its end is answered.
+  pub record HasTakenOver (old : Serving S) (end : ℕ) (new : Option (Serving S)) : Type 0 where
+    pub idle : old.written ≡ None
+    pub place : Tail
+    pub next : old.next ≡ Some place
+    pub answers : end ≡ place.position
+    pub rest : new ≡ Some (with_log_at place old)
+
+  -- none does while a frame is on its way, if no new log is, or once the server has stopped
+  abbrev pub TakesOver : Option (Serving S) → Option ℕ → Option (Serving S) → Type 0
+  TakesOver None None new = new ≡ None
+  TakesOver None (Some end) new = ⊥
+  TakesOver (Some old) None new = (IsSome old.written ⊎ (old.next ≡ None)) × (new ≡ Some old)
+  TakesOver (Some old) (Some end) new = HasTakenOver old end new
 
 module _ {S : Type 0} (app : Application S) (c : Codec S) where
-  -- With the new log the server stands for the model's server whose disk that log makes. What waits there leaves nothing on disk, so it goes on
-  -- as if its log were the old one (`servers_go_on_from_checkpoints`).
-  pub record GoesOnWithNewLog (log : LogId) (s : PackedServer S) (v : Serving S) (w : Written) : Type 0 where
+  -- The new log makes the disk of a model's server for which the server stands, too, beside the one that has the old log. What waits there leaves
+  -- nothing on disk, so it goes on as if its log were the old one (`servers_go_on_from_checkpoints`).
+  pub record GoesOnBesideNewLog (log : LogId) (s : PackedServer S) (v : Serving S) (w : Written) : Type 0 where
     pub waits : packed_left_by s.waiting ≡ []
-    pub stands : Stands app (packed_checkpointed app s) (with_new_log c log v)
+    pub old : Stands app s (with_next_log c log v)
+    pub stands : Stands app (packed_checkpointed app s) (with_next_log c log v)
     pub has : HasLog app c (packed_checkpointed app s) (first_batch v ∷ [])
-    pub ends : IsAtEnd c log (first_batch v ∷ []) w.bytes.items (with_new_log c log v)
+    pub ends : IsAtNextEnd c log (first_batch v ∷ []) w.bytes.items (with_next_log c log v)
 
   abbrev pub NewLogsGoOn : Type 0
-  NewLogsGoOn = (log : LogId) (s : PackedServer S) (v : Serving S) (w : Written) → Stands app s v → IsNewLog c log v w → GoesOnWithNewLog log s v w
+  NewLogsGoOn =
+      (log : LogId) (s : PackedServer S) (v : Serving S) (w : Written) → Stands app s v → IsNewLog c log v w → GoesOnBesideNewLog log s v w
+
+  -- A log that takes the old one's place: the server stands for each model's server that it stood for, so for that which has this log, and goes
+  -- on at its end.
+  abbrev pub NewLogsTakeOver : Type 0
+  NewLogsTakeOver =
+      (log : LogId) (s : PackedServer S) (batches : List (List (NamedRecord S))) (file : List ℕ) (v : Serving S) (end : ℕ) (new : Serving S)
+      → Stands app s v → IsAtNextEnd c log batches file v → HasTakenOver v end (Some new)
+      → Stands app s new × IsAtEnd c log batches file new
+
+  -- one that is given up leaves the server as it is
+  abbrev pub NewLogsAreGivenUp : Type 0
+  NewLogsAreGivenUp = (s : PackedServer S) (v : Serving S) → Stands app s v → Stands app s (without_next_log v)

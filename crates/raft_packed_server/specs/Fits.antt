@@ -1,5 +1,5 @@
 -- When a call fails only if memory runs out, or the index behind the last entry that is applied has no 64 bits.
-use Rattle.std.specs.Prelude.{ℕ, ◌<◌, ◌≤◌, ◌+◌, ◌^◌, List, length}
+use Rattle.std.specs.Prelude.{ℕ, ◌<◌, ◌≤◌, ◌+◌, ◌^◌, IfSome, List, Option, length}
 use Rattle.raft_frames.specs.declared.tail.Tail.{Tail}
 use Rattle.raft_frames.specs.declared.tail.TheConstants.{MAX_FRAME}
 use Rattle.raft_packed_wire.specs.raft_packed_node.Held.{RunsOut}
@@ -15,3 +15,8 @@ StepRunsOut _ = ⊥
 pub record FitsAt (tail : Tail) (payload : List ℕ) : Type 0 where
   pub short : length payload ≤ MAX_FRAME
   pub place : tail.position + (12 + length payload) < 2 ^ 64
+
+-- It fits at the end of the log, and at the end of the one that is on its way, if one is.
+pub record FitsBoth (tail : Tail) (next : Option Tail) (payload : List ℕ) : Type 0 where
+  pub here : FitsAt tail payload
+  pub beside : IfSome next (λ t. FitsAt t payload)

@@ -25,6 +25,15 @@ module _ {S : Type 0} (c : Codec S) where
     pub file : ((bytes ≡ []) × (batches ≡ []) × (v.header ≡ Some log)) ⊎ ((bytes ≡ file_of (logged_by c) log batches) × (v.header ≡ None))
     pub tail : v.tail ≡ after_all (start log) (map (bytes_of (logged_by c)) batches)
 
+  -- a new log is on its way whose file, once all that was handed out is there, has these batches; the next frame goes behind them
+  pub record IsAtNextEnd (log : LogId) (batches : List (List (NamedRecord S))) (bytes : List ℕ) (v : Serving S) : Type 0 where
+    pub file : bytes ≡ file_of (logged_by c) log batches
+    pub next : v.next ≡ Some (after_all (start log) (map (bytes_of (logged_by c)) batches))
+
+-- what was handed out for the new log
+abbrev pub for_next : Written → List ℕ
+for_next w = elim w.next [ None ↦ [] | Some bytes ↦ bytes.items ]
+
 module _ {S : Type 0} (app : Application S) (c : Codec S) where
   -- Behind the file of a server of the model, what is handed out makes the file of that server once what these steps leave is on disk.
   abbrev pub WritesLog : Type 0
@@ -33,6 +42,14 @@ module _ {S : Type 0} (app : Application S) (c : Codec S) where
       → HasLog app c s batches → Stands app s v → IsAtEnd c log batches file v → IsHandedOut c v w
       → HasLog app c (packed_flushed_first app v.steps s) (batches ++ v.records ∷ [])
       × IsAtEnd c log (batches ++ v.records ∷ []) (file ++ w.bytes.items) (with_batch c v)
+
+  -- and so behind the file of the new log, for a model's server that has it
+  abbrev pub WritesNextLog : Type 0
+  WritesNextLog =
+      (log : LogId) (s : PackedServer S) (batches : List (List (NamedRecord S))) (file : List ℕ) (v : Serving S) (w : Written)
+      → HasLog app c s batches → Stands app s v → IsAtNextEnd c log batches file v → IsHandedOut c v w
+      → HasLog app c (packed_flushed_first app v.steps s) (batches ++ v.records ∷ [])
+      × IsAtNextEnd c log (batches ++ v.records ∷ []) (file ++ for_next w) (with_batch c v)
 
   -- A server that was opened on the bytes which a crash left of a server's file, while what its k oldest waiting steps leave came on disk:
   -- it stands for the model's server after a crash that left all of those records, or none. It goes on at the end of what is kept of the

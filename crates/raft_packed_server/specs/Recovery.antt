@@ -21,11 +21,12 @@ use Rattle.raft_packed_server.specs.declared.server.Opened.{Opened}
 use Rattle.raft_packed_server.specs.Logs.{kept_on_disk, logged_by, restored, with_all_named}
 use Rattle.raft_packed_server.specs.Represents.{Represents}
 
--- the next frame goes there, behind the header if the log has none, and no other is on its way
+-- the next frame goes there, behind the header if the log has none, and no other is on its way, nor a new log
 pub record GoesOnAt {S : Type 0} (v : Serving S) (missing : Option LogId) (place : Tail) : Type 0 where
   pub header : v.header ≡ missing
   pub tail : v.tail ≡ place
   pub idle : v.written ≡ None
+  pub alone : v.next ≡ None
 
 abbrev pub GoesOn : {S : Type 0} → Option (Serving S) → Option LogId → Tail → Type 0
 GoesOn None header tail = ⊥
@@ -83,6 +84,7 @@ unstarted id r =
       outputs = nothing_recorded;
       header = (if nat_eq r.end 0 then Some id else None);
       tail = r.tail;
+      next = None;
     }
 
 -- Recovery

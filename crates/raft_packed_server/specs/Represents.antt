@@ -1,6 +1,7 @@
 -- A server stands for a server of the model (`proof_packed_servers`), and each call does there what the model says. So what is promised of
 -- all servers of the model (`packs_clusters`, and through it `servers_follow`, `servers_agree`) holds of what leaves this one.
 use Rattle.std.specs.Prelude.{ℕ, ◌≡◌, ◌≤◌, ◌⊎◌, List, [], ◌∷◌, Option, None, Some, IsSome, Result, IfOk, OnOk, length, take, drop}
+use Rattle.std.specs.Option.{option_map}
 use Rattle.raft_schedule.specs.declared.event.Outcome.{Outcome}
 use Rattle.raft_codec.specs.Codec.{Codec}
 use Rattle.proof_logs.specs.Batches.{IsBatchOf}
@@ -16,7 +17,7 @@ use Rattle.raft_packed_server.specs.declared.batch.Batch.{Batch}
 use Rattle.raft_packed_server.specs.declared.batch.Written.{Written}
 use Rattle.raft_packed_server.specs.declared.serving.Serving.{Serving}
 use Rattle.raft_packed_server.specs.Logs.{first_records, left_by, logged_by}
-use Rattle.raft_packed_server.specs.Views.{ServerView, next_bytes, steps_released, with_batch}
+use Rattle.raft_packed_server.specs.Views.{ServerView, bytes_beside, next_bytes, steps_released, with_batch}
 
 module _ {S : Type 0} where
   -- it serves no more
@@ -83,12 +84,14 @@ module _ {S : Type 0} (app : Application S) where
       → (outputs ≡ said_by (take k s.waiting)) × Represents (packed_flushed_first app k s) new)
 
 module _ {S : Type 0} (c : Codec S) where
-  -- the records that wait are handed out as one frame: its bytes, which can be read back, and where they end
+  -- the records that wait are handed out as one frame: its bytes, which can be read back, where they end, and those for the log that is on its
+  -- way
   pub record IsHandedOut (old : Serving S) (w : Written) : Type 0 where
     pub none_before : old.written ≡ None
     pub batch : IsBatchOf (logged_by c) old.records
     pub bytes : w.bytes.items ≡ next_bytes c old
     pub end : w.end ≡ (with_batch c old).tail.position
+    pub next : option_map (λ b. b.items) w.next ≡ bytes_beside c old
 
   -- none is while another one is on its way, or if no record waits
   abbrev pub HandsOut : Option (Serving S) → Option Written → Option (Serving S) → Type 0

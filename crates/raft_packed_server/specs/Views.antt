@@ -1,5 +1,6 @@
 -- What a server has, and what each call makes of it.
 use Rattle.std.specs.Prelude.{ℕ, ◌≡◌, ◌+◌, Bool, true, false, List, [], ◌++◌, Option, None, Some, nat_le, if◌then◌else◌}
+use Rattle.std.specs.Option.{option_map}
 use Rattle.raft_frames.specs.declared.header.LogId.{LogId}
 use Rattle.raft_frames.specs.Format.{after, frame, header}
 use Rattle.raft_schedule.specs.declared.event.Outcome.{Outcome}
@@ -82,7 +83,11 @@ module _ {S : Type 0} (c : Codec S) where
   abbrev pub next_bytes : Serving S → List ℕ
   next_bytes v = header_of v.header ++ frame v.tail (bytes_of (logged_by c) v.records)
 
-  -- they were handed out
+  -- and for the log that is on its way, if one is
+  abbrev pub bytes_beside : Serving S → Option (List ℕ)
+  bytes_beside v = option_map (λ t. frame t (bytes_of (logged_by c) v.records)) v.next
+
+  -- they were handed out, for both logs
   abbrev pub with_batch : Serving S → Serving S
   with_batch v =
       let tail = after v.tail (bytes_of (logged_by c) v.records) in
@@ -93,6 +98,7 @@ module _ {S : Type 0} (c : Codec S) where
         outputs = nothing_recorded;
         header = None;
         tail = tail;
+        next = option_map (λ t. after t (bytes_of (logged_by c) v.records)) v.next;
       }
 
 module _ {S : Type 0} where

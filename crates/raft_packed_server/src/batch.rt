@@ -10,6 +10,8 @@ pub struct Written {
     pub bytes: Vec<u8>,
     /// Where they end in the log, in bytes: the position for [`Server::flushed`](crate::Server::flushed).
     pub end: u64,
+    /// The same records for the end of the log that is on its way, if one is: to be appended to its file.
+    pub next: Option<Vec<u8>>,
 }
 
 /// Steps whose records were handed out as one frame. Those of them that leave none wait for the others.

@@ -1,4 +1,4 @@
-//! How a server begins a new log.
+//! How a server begins a new log, which takes the old one's place.
 
 ghost use Rattle.std.specs.Prelude.{◌≡◌, ◌≤◌, ◌↔◌, ◌∷◌, [], IfErr, IfOk, IsTrue, OnErr, Some, length};
 ghost use Rattle.raft_frames.specs.declared.error.PushError.TheVariants as push;
@@ -6,7 +6,7 @@ ghost use Rattle.raft_frames.specs.Format.{after, start};
 ghost use Rattle.raft_frames.specs.Laws.{IsPayload, file};
 ghost use Rattle.proof_logs.specs.Batches.{IsBatchOf, bytes_of, file_of};
 ghost use Rattle.raft_packed_server.specs.Fits.{FitsAt};
-ghost use Rattle.raft_packed_server.specs.Checkpoints.{BeginsLog, IsClear, checkpoint_of, first_batch};
+ghost use Rattle.raft_packed_server.specs.Checkpoints.{BeginsLog, IsClear, TakesOver, checkpoint_of, first_batch, without_next_log};
 ghost use Rattle.raft_packed_server.specs.Logs.{logged_by};
 
 use crate::batch::Written;
@@ -67,7 +67,7 @@ fn is_clear<M: Machine>(serving: &Serving<M>) -> bool
     serving.written.is_none() && serving.records.is_empty()
 }
 
-/// Begins a new log, unless a frame is on its way or records wait.
+/// Begins a new log, unless a frame is on its way or records wait. The old one goes on, and one that was on its way is given up.
 pub fn begin_log<M: Machine>(
     alloc: Global,
     id: &LogId,
@@ -83,10 +83,33 @@ pub fn begin_log<M: Machine>(
     }
     let log = new_log(alloc, id, serving)?;
     let end = log.tail.position;
-    serving.header = None;
-    serving.tail = log.tail;
+    serving.next = Some(log.tail);
     Ok(Some(Written {
         bytes: log.bytes,
         end,
+        next: None,
     }))
+}
+
+/// The log that is on its way takes the old one's place, if one is and no frame is on its way: gives its end.
+pub fn take_over<M: Machine>(serving: &mut Serving<M>) -> Option<u64>
+    ensures takes_over { TakesOver (Some serving.old) result (Some serving.new) }
+    ensures node { serving.new.node ≡ serving.old.node }
+{
+    // (what is on its way waits for a position of the old log)
+    if serving.written.is_some() {
+        return None;
+    }
+    let place = serving.next?;
+    serving.header = None;
+    serving.tail = place;
+    serving.next = None;
+    Some(place.position)
+}
+
+/// No log is on its way any more.
+pub fn give_up_log<M: Machine>(serving: &mut Serving<M>)
+    ensures { serving.new ≡ without_next_log serving.old }
+{
+    serving.next = None;
 }

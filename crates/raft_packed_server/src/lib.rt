@@ -13,8 +13,9 @@
 //!    what those behind them say that wait for no record. It is called after a sync, and if nothing was written, with
 //!    the position of the last sync: most steps change nothing on disk and leave no record.
 //!
-//! A log that has grown long is replaced: [`Server::begin_log`] gives the bytes of a new one that makes the same. Once they are on disk, in a
-//! file of their own, that takes the old one's place.
+//! A log that has grown long is replaced, while it goes on: [`Server::begin_log`] gives the bytes of a new one that makes the same, for a file of
+//! its own, and [`Server::write`] from then on bytes for both. Once the new file has all of them on disk, [`Server::take_over`] gives it the old
+//! one's place; [`Server::give_up_log`], if it can't be written.
 //!
 //! After an error the server has stopped for good, and nothing leaves it any more: it is opened again on its log.
 #![tactic(auto)]

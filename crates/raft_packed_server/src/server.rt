@@ -6,8 +6,8 @@ ghost use Rattle.raft_frames.specs.declared.error.PushError.TheVariants as push;
 ghost use Rattle.raft_frames.specs.Format.{start};
 ghost use Rattle.raft_packed_wire.specs.raft_packed_node.Held.{IsPackedAtRest};
 ghost use Rattle.proof_logs.specs.Batches.{bytes_of};
-ghost use Rattle.raft_packed_server.specs.Checkpoints.{BeginsLog, first_batch};
-ghost use Rattle.raft_packed_server.specs.Fits.{FitsAt, StepRunsOut};
+ghost use Rattle.raft_packed_server.specs.Checkpoints.{BeginsLog, TakesOver, first_batch, without_next_log};
+ghost use Rattle.raft_packed_server.specs.Fits.{FitsAt, FitsBoth, StepRunsOut};
 ghost use Rattle.raft_packed_server.specs.Logs.{logged_by};
 ghost use Rattle.raft_packed_server.specs.Recovery.{Opens, unstarted};
 ghost use Rattle.raft_packed_server.specs.Represents.{Flushes, HandsOut, Stays, Takes};
@@ -15,7 +15,7 @@ ghost use Rattle.raft_packed_server.specs.Views.{IsWithTaken, released, step_of}
 ghost use Rattle.raft_packed_server.specs.declared.error.ServerError.TheVariants.{Stopped, Write};
 
 use crate::batch::{Said, Written};
-use crate::checkpoint::begin_log;
+use crate::checkpoint::{begin_log, give_up_log, take_over};
 use crate::error::{OpenError, ServerError};
 use crate::records::Records;
 use crate::recovery::{Recovery, recover};
@@ -88,6 +88,7 @@ fn unstarted<M: Machine>(alloc: Global, id: &LogId, recovery: Recovery<M>) -> Se
         outputs: Outbox::new(alloc),
         header: missing_header(id, recovery.end),
         tail: recovery.tail,
+        next: None,
     }
 }
 
@@ -168,15 +169,16 @@ impl<M: Machine> Server<M> {
 
     /// Hands out the bytes for the log's end: the records that wait as one frame, behind the header if the log is new.
     /// None if no record waits, or while others are on their way: until [`flushed`](Server::flushed) is called with
-    /// their end. What the steps of a frame say waits for it, also of those that left no record.
+    /// their end. What the steps of a frame say waits for it, also of those that left no record. If a new log is on its way
+    /// ([`begin_log`](Server::begin_log)), the same records are handed out for its end too.
     ///
     /// After an `Err` the server has stopped:
     /// - [`ServerError::Stopped`]: it had before.
-    /// - [`ServerError::Write`]: the records have more than [`MAX_FRAME`](raft_frames::MAX_FRAME) bytes, or the log would
+    /// - [`ServerError::Write`]: the records have more than [`MAX_FRAME`](raft_frames::MAX_FRAME) bytes, or a log would
     ///   end at 2^64 bytes or later, or out of memory.
     pub fn write(&mut self) -> Result<Option<Written>, ServerError>
         ensures hands_out { IfOk result (λ written. HandsOut M.codec self.old.serving written self.new.serving) }
-        ensures fits { IfSome self.old.serving (λ v. FitsAt v.tail (bytes_of (logged_by M.codec) v.records)
+        ensures fits { IfSome self.old.serving (λ v. FitsBoth v.tail v.next (bytes_of (logged_by M.codec) v.records)
             → IfErr result (λ e. e ≡ Write push.OutOfMemory)) }
         ensures stays { Stays M.application self.old result self.new }
         ensures given { self.new.given ≡ self.old.given }
@@ -195,8 +197,11 @@ impl<M: Machine> Server<M> {
         }
     }
 
-    /// Begins a new log: a checkpoint, which makes what the old log's records made. Its bytes are written to a new file and synced; then that file
-    /// takes the old one's place, durably, and is appended to from then on. Positions are those of the new file.
+    /// Begins a new log: a checkpoint, which makes what the old log's records made. Its bytes are written to a new file, beside the old one, which
+    /// goes on as before. From now on what [`write`](Server::write) hands out for the new log is appended to its file. Once that has all of it and
+    /// is synced, [`take_over`](Server::take_over) is called. A new log that was on its way before is given up.
+    ///
+    /// A crash before the new file has the old one's place leaves the old log, and one after that the new log: they make the same.
     ///
     /// None while a frame is on its way to the disk, or records wait. An `Err` changes nothing:
     /// - [`ServerError::Stopped`]: the server has stopped.
@@ -215,6 +220,30 @@ impl<M: Machine> Server<M> {
         match begin_log(self.alloc, id, serving) {
             Ok(written) => Ok(written),
             Err(error) => Err(ServerError::Write(error)),
+        }
+    }
+
+    /// The new log takes the old one's place, with all that was handed out: gives where it ends, in bytes. From now on positions are those of
+    /// the new log. It is called once the new file has all of it and is synced; then that file takes the old one's place, durably, before anything
+    /// more is written.
+    ///
+    /// None, and nothing changes, if no new log is on its way, while a frame is on its way to the disk, or once the server has stopped.
+    pub fn take_over(&mut self) -> Option<u64>
+        ensures takes_over { TakesOver self.old.serving result self.new.serving }
+        ensures given { self.new.given ≡ self.old.given }
+    {
+        let Some(serving) = &mut self.serving else {
+            return None;
+        };
+        take_over(serving)
+    }
+
+    /// The new log can't be written, and is given up: the old one goes on alone.
+    pub fn give_up_log(&mut self)
+        ensures { self.new ≡ record self.old { serving = option_map without_next_log self.old.serving } }
+    {
+        if let Some(serving) = &mut self.serving {
+            give_up_log(serving);
         }
     }
 

@@ -1,6 +1,8 @@
 //! What a server does while it serves.
 
-ghost use Rattle.std.specs.Prelude.{◌≡◌, ◌+◌, ◌++◌, [], IfErr, IfOk, None, OnOk, Some, nat_le};
+ghost use Rattle.std.specs.Prelude.{◌≡◌, ◌≢◌, ◌+◌, ◌++◌, [], IfErr, IfOk, IfSome, None, OnOk, Some, nat_le};
+ghost use Rattle.std.specs.Option.{option_map};
+ghost use Rattle.raft_frames.specs.Format.{after, frame};
 ghost use Rattle.raft_node.specs.declared.act.Act.TheVariants.{FinishSnapshot};
 ghost use Rattle.raft_calls.specs.Held.{IsRestingWhereRunning};
 ghost use Rattle.raft_packed_wire.specs.raft_packed_node.Effects.{brought_by};
@@ -12,7 +14,7 @@ ghost use Rattle.raft_packed_wire.specs.Named.{IsBeganBy};
 ghost use Rattle.raft_packed_wire.specs.declared.named.Named.TheVariants as names;
 ghost use Rattle.raft_packed_wire.specs.declared.record.PackedBegan.TheVariants as made;
 ghost use Rattle.raft_packed_server.specs.Began.{built_end, named_left_of, named_no_changes, prepared_for};
-ghost use Rattle.raft_packed_server.specs.Fits.{FitsAt};
+ghost use Rattle.raft_packed_server.specs.Fits.{FitsAt, FitsBoth};
 ghost use Rattle.raft_packed_server.specs.Logs.{logged_by};
 ghost use Rattle.raft_packed_server.specs.Views.{IsTaken, batch_released, header_of, released, rest_released, step_of};
 ghost use Rattle.raft_packed_server.specs.Represents.{HandsOut};
@@ -48,6 +50,8 @@ pub struct Serving<M: Machine> {
     pub header: Option<LogId>,
     /// Where the next frame goes.
     pub tail: Tail,
+    /// Where it goes in the log that is to take this one's place, if one is on its way.
+    pub next: Option<Tail>,
 }
 
 /// What the act's calls are about to make of the node's store, for which the node is prepared.
@@ -238,19 +242,42 @@ fn take_header(alloc: Global, header: &mut Option<LogId>) -> Result<Vec<u8>, All
     }
 }
 
-/// Hands out the records that wait as one frame for the log's end, unless there are none, or others are on their way.
+/// Writes the records as one frame for the log that is on its way, if one is, and goes on to the place behind it.
+fn write_beside<M: Machine>(
+    alloc: Global,
+    records: &Records<M>,
+    next: &mut Option<Tail>,
+) -> Result<Option<Vec<u8>>, PushError>
+    ensures frame { IfOk result (λ written. option_map (λ b. b.items) written
+        ≡ option_map (λ t. frame t (bytes_of (logged_by M.codec) records.now)) next.old) }
+    ensures tail { OnOk result (next.new ≡ option_map (λ t. after t (bytes_of (logged_by M.codec) records.now)) next.old) }
+    ensures fits { records.now ≢ [] → IfSome next.old (λ t. FitsAt t (bytes_of (logged_by M.codec) records.now))
+        → IfErr result (λ e. e ≡ PushError.OutOfMemory) }
+{
+    let Some(tail) = next else {
+        return Ok(None);
+    };
+    let mut bytes = Vec::new(alloc);
+    records.write_frame(tail, &mut bytes)?;
+    Ok(Some(bytes))
+}
+
+/// Hands out the records that wait as one frame for the log's end, and for that of a log on its way, unless there are none, or others are on
+/// their way.
 pub fn hand_out<M: Machine>(
     alloc: Global,
     serving: &mut Serving<M>,
 ) -> Result<Option<Written>, PushError>
     ensures hands_out { IfOk result (λ written. HandsOut M.codec (Some serving.old) written (Some serving.new)) }
-    ensures fits { FitsAt serving.old.tail (bytes_of (logged_by M.codec) serving.old.records) → IfErr result (λ e. e ≡ PushError.OutOfMemory) }
+    ensures fits { FitsBoth serving.old.tail serving.old.next (bytes_of (logged_by M.codec) serving.old.records)
+        → IfErr result (λ e. e ≡ PushError.OutOfMemory) }
 {
     if serving.written.is_some() || serving.records.is_empty() {
         return Ok(None);
     }
     let mut bytes = take_header(alloc, &mut serving.header)?;
     serving.records.write_frame(&mut serving.tail, &mut bytes)?;
+    let next = write_beside(alloc, &serving.records, &mut serving.next)?;
     let end = serving.tail.position;
     serving.written = Some(Batch {
         end,
@@ -259,7 +286,7 @@ pub fn hand_out<M: Machine>(
     });
     serving.steps = 0;
     serving.records.clear();
-    Ok(Some(Written { bytes, end }))
+    Ok(Some(Written { bytes, end, next }))
 }
 
 /// Takes what the steps of the batch say, if the log is on disk up to this position and the batch is.

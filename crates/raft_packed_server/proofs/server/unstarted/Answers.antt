@@ -13,4 +13,5 @@ returns g c = λ i. record {
   outputs = c.new-2.ensures i;
   header = c.missing_header.ensures i;
   tail = c.args.recovery.tail;
+  next = None;
 }

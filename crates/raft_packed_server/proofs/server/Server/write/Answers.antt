@@ -2,7 +2,7 @@ use Rattle.std.proofs.Common.{Option, Some, ap, subst, sym, ◌≡◌, ◌∙◌
 use Rattle.std.specs.Prelude.{IfSome}
 use Rattle.raft_frames.specs.declared.error.PushError.TheVariants as push
 use Rattle.proof_logs.specs.Batches.{bytes_of}
-use Rattle.raft_packed_server.specs.Fits.{FitsAt}
+use Rattle.raft_packed_server.specs.Fits.{FitsBoth}
 use Rattle.raft_packed_server.specs.declared.error.ServerError.TheVariants.{Write}
 use Rattle.raft_packed_server.specs.declared.serving.Serving.{Serving}
 use Rattle.raft_packed_server.specs.Logs.{logged_by}
@@ -15,7 +15,7 @@ pub returns-in-Err-clause-fits : goal.returns-in-Err-clause-fits
 returns-in-Err-clause-fits g c =
     let serves : c.args.self.now.serving ≡ Some c.in-Some.serving =
     ap (λ (w : ServerView g.row.M.Denot). w.serving) (sym c.self.view_is) ∙ c.in-Some.is in
-    subst (λ (o : Option (Serving g.row.M.Denot)). IfSome o (λ v. FitsAt v.tail (bytes_of (logged_by g.M.Machine.codec) v.records)
+    subst (λ (o : Option (Serving g.row.M.Denot)). IfSome o (λ v. FitsBoth v.tail v.next (bytes_of (logged_by g.M.Machine.codec) v.records)
     → Write c.in-Err.error ≡ Write push.OutOfMemory)) (sym serves)
     (λ fits. ap Write (c.in-Err.ensures.fits fits))
 
