@@ -79,35 +79,60 @@ module _ {S : Type 0} (app : Application S) (c : Codec S) where
       })
       hands given stays)
 
+  -- some of what is prepared, and of what is outgoing, is let go before
+  sends_of : (start : ℕ) (messages held mid new : List (PackedMessage S)) (out : List (Output S)) (were was going : List Outgoing)
+      → ((m : PackedMessage S) → Contains mid m → Contains held m) → ((o : Outgoing) → Contains was o → Contains were o)
+      → Sends app c start messages mid was out new going → Sends app c start messages held were out new going
+  sends_of start messages held mid new out were was going waited kept h = record {
+    frames = h.frames;
+    parts = h.parts;
+    waiting = h.waiting;
+    sends = record {
+      leave = h.sends.leave;
+      preparing = λ m there. ⊎_elim (λ before. inl (waited m before)) (λ y. inr y) (h.sends.preparing m there);
+    };
+    prepares = record {
+      preparing = h.prepares.preparing;
+      outgoing = λ o there. ⊎_elim (λ before. inl (kept o before)) (λ y. inr y) (h.prepares.outgoing o there);
+      leaves = h.prepares.leaves;
+    };
+    leaves = h.leaves;
+  }
+
   -- records came on disk
   pub releases : (position : ℕ) (old j : CoreView S) (out : List (Output S)) (s : ServerView S) (said : PackedRecords S)
       (frames : List (Output S)) (left : Open)
-      (executed : Option ℕ) (reads : ReadsView) (mid going : List Outgoing)
+      (executed : Option ℕ) (reads : ReadsView) (mid new : List (PackedMessage S)) (was going : List Outgoing)
       → j ≡ record old { server = s } → Flushes app {E = ServerError} position old.server (Ok said) s
       → old.server.serving ≢ None → s.serving ≡ option_map (λ v. (released position v).1) old.server.serving → s.given ≡ old.server.given
-      → ((o : Outgoing) → Contains mid o → Contains j.outgoing o) → Sends app c j.start said.bag mid frames going
+      → ((m : PackedMessage S) → Contains mid m → Contains j.preparing m) → ((o : Outgoing) → Contains was o → Contains j.outgoing o)
+      → Sends app c j.start said.bag mid was frames new going
       → left ≡ settled_all (map (λ x. x.entry) said.executed) j.requests → executed ≡ handed_after said j.executed
       → reads ≡ read_left (handed_after said j.executed) (with_left said.answers j.reads)
       → out ≡ said_outputs frames said j.requests.proposed ++ reads_out (read_replies (handed_after said j.executed) (with_left said.answers j.reads))
-      → Releases app c position old out (record j { requests = left; executed = executed; reads = reads; outgoing = going })
-  releases position old j out s said frames left executed reads mid going same flushes serves done given kept sends settles executes answers leaves =
-      subst (λ (v : CoreView S). ((o : Outgoing) → Contains mid o → Contains v.outgoing o) → Sends app c v.start said.bag mid frames going → left ≡ settled_all (map (λ x. x.entry) said.executed) v.requests
+      → Releases app c position old out (record j { requests = left; executed = executed; reads = reads; preparing = new; outgoing = going })
+  releases position old j out s said frames left executed reads mid new was going same flushes serves done given waited kept sends settles executes
+      answers leaves =
+      subst (λ (v : CoreView S). ((m : PackedMessage S) → Contains mid m → Contains v.preparing m)
+      → ((o : Outgoing) → Contains was o → Contains v.outgoing o)
+      → Sends app c v.start said.bag mid was frames new going → left ≡ settled_all (map (λ x. x.entry) said.executed) v.requests
       → executed ≡ handed_after said v.executed
       → reads ≡ read_left (handed_after said v.executed) (with_left said.answers v.reads)
       → out ≡ said_outputs frames said v.requests.proposed ++ reads_out (read_replies (handed_after said v.executed) (with_left said.answers v.reads))
-      → Releases app c position old out (record v { requests = left; executed = executed; reads = reads; outgoing = going })) (sym same)
-      (λ k b e x a l. record {
+      → Releases app c position old out (record v { requests = left; executed = executed; reads = reads; preparing = new; outgoing = going }))
+      (sym same)
+      (λ w k b e x a l. record {
         said = said;
         frames = frames;
         flushes = flushes;
         serves = serves;
         released = done;
         given = given;
-        sends = record { leave = b.leave; outgoing = λ o there. ⊎_elim (λ before. inl (k o before)) (λ y. inr y) (b.outgoing o there) };
-        rest = λ i. record old { server = s; outgoing = going; requests = e i; executed = x i; reads = a i };
+        sends = sends_of old.start said.bag old.preparing mid new frames old.outgoing was going w k b;
+        rest = λ i. record old { server = s; preparing = new; outgoing = going; requests = e i; executed = x i; reads = a i };
         leaves = l;
       })
-      kept sends settles executes answers leaves
+      waited kept sends settles executes answers leaves
 
 module _ {S : Type 0} where
   -- ---- what is answered, from its parts

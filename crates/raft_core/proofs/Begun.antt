@@ -1,5 +1,5 @@
--- What an opened server goes on from, and how it goes on with a new log.
-use Rattle.std.proofs.Common.{◌≡◌, ◌∙◌, refl, sym, ap, subst}
+-- What an opened server goes on from, and how it goes on with a new log, which takes the old one's place.
+use Rattle.std.proofs.Common.{ℕ, ◌≡◌, ◌∙◌, refl, sym, ap, subst}
 use Rattle.std.specs.Prelude.{IfSome, None, Option, Some}
 use Rattle.std.specs.Option.{option_map}
 use Rattle.raft_frames.specs.declared.header.LogId.{LogId}
@@ -9,10 +9,10 @@ use Rattle.raft_peers.specs.proof_packed.Nodes.{PackedNode}
 use Rattle.raft_peers.specs.proof_packed.Stores.{Packed}
 use Rattle.raft_peers.specs.raft_packed_server.declared.batch.Written.{Written}
 use Rattle.raft_peers.specs.raft_packed_server.declared.serving.Serving.{Serving}
-use Rattle.raft_peers.specs.raft_packed_server.Checkpoints.{BeginsLog}
+use Rattle.raft_peers.specs.raft_packed_server.Checkpoints.{BeginsLog, TakesOver, without_next_log}
 use Rattle.raft_peers.specs.raft_packed_server.Recovery.{GoesOn}
 use Rattle.raft_peers.specs.raft_packed_server.Views.{ServerView}
-use Rattle.raft_core.specs.Calls.{MayBeginLog}
+use Rattle.raft_core.specs.Calls.{GivesUpLog, MayBeginLog, TakesOverLog}
 use Rattle.raft_core.specs.Views.{CoreView}
 
 -- what a copy is of, at the server of its node
@@ -46,3 +46,14 @@ module _ {S : Type 0} (c : Codec S) where
       → BeginsLog c log old.server.serving written server.serving → server.given ≡ old.server.given
       → MayBeginLog c log old written (record old { server = server })
   begins log old written server = begins_at log old old.server.serving refl written server
+
+module _ {S : Type 0} where
+  -- it takes the old one's place at the server, or not, or is given up
+  pub takes_over : (old : CoreView S) (end : Option ℕ) (server : ServerView S) → TakesOver old.server.serving end server.serving
+      → server.given ≡ old.server.given → TakesOverLog old end (record old { server = server })
+  takes_over old end server took given =
+      record { takes_over = took; rest = λ i. record old { server = record { given = given i; serving = server.serving } } }
+
+  pub gives_up : (old : CoreView S) (server : ServerView S)
+      → server ≡ record old.server { serving = option_map without_next_log old.server.serving } → GivesUpLog old (record old { server = server })
+  gives_up old server gave = λ i. record old { server = gave i }

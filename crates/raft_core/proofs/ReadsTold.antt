@@ -45,14 +45,14 @@ module _ {S : Type 0} where
   reads_more (outputs.Read r ∷ a) b = ap (λ rs. r ∷ rs) (reads_more a b)
   reads_more (outputs.Reply r ∷ a) b = reads_more a b
   reads_more (outputs.Send to bytes ∷ a) b = reads_more a b
-  reads_more (outputs.Append bytes end ∷ a) b = reads_more a b
+  reads_more (outputs.Append bytes end next ∷ a) b = reads_more a b
   reads_more (outputs.Install snapshot ∷ a) b = reads_more a b
   reads_more (outputs.Execute entry ∷ a) b = reads_more a b
 
   none_sent : (out : List (Output S)) → AreSends out → read_replies_of out ≡ []
   none_sent [] h = refl
   none_sent (outputs.Send to bytes ∷ out) h = none_sent out h.1
-  none_sent (outputs.Append bytes end ∷ out) h = absurd h.0
+  none_sent (outputs.Append bytes end next ∷ out) h = absurd h.0
   none_sent (outputs.Install snapshot ∷ out) h = absurd h.0
   none_sent (outputs.Execute entry ∷ out) h = absurd h.0
   none_sent (outputs.Reply r ∷ out) h = absurd h.0
@@ -161,7 +161,7 @@ module _ {S : Type 0} (app : Application S) (c : Codec S) where
   said_quiet position old new out r =
       let es = map (λ x. x.entry) r.said.executed in
       none_both r.frames (map install r.said.installed ++ executed_outputs es old.requests.proposed)
-      (none_sent r.frames (messages_send app c old.start r.said.bag r.frames r.sends.leave))
+      (none_sent r.frames (messages_send app c old.start old.preparing new.preparing old.outgoing new.outgoing r.said.bag r.frames r.sends))
       (none_both (map install r.said.installed) (executed_outputs es old.requests.proposed) (none_installed r.said.installed)
       (none_executed S es old.requests.proposed))
 

@@ -6,12 +6,12 @@ use Rattle.raft_answers.specs.Requests.{Open}
 use Rattle.raft_codec.specs.Codec.{Codec}
 use Rattle.raft_store.specs.declared.entry.Entry.{Entry}
 use Rattle.raft_node.specs.declared.record.Executed.{Executed}
-use Rattle.raft_peers.specs.proof_packed.Nodes.{PackedRecords}
+use Rattle.raft_peers.specs.proof_packed.Nodes.{PackedMessage, PackedRecords}
 use Rattle.raft_peers.specs.proof_packed.Stores.{Application}
 use Rattle.raft_peers.specs.proof_packed_servers.Servers.{packed_joined}
 use Rattle.raft_peers.specs.declared.output.Output.{Output}
 use Rattle.raft_peers.specs.Parts.{Outgoing}
-use Rattle.raft_peers.specs.Sends.{Sends}
+use Rattle.raft_peers.specs.Sends.{Prepares, Sends, SendsAll}
 use Rattle.raft_peers.proofs.Sent.{sends_both}
 use Rattle.raft_core.specs.Outputs.{executed_out, executed_outputs, install, said_outputs, settled_all}
 
@@ -40,6 +40,11 @@ module _ {S : Type 0} where
       ∙ sym (append_assoc (executed_out x o.proposed) (executed_outputs es (settled_left x.log_id.index o.proposed))
       (executed_outputs fs (settled_all (x ∷ es) o).proposed))
 
+module _ {S : Type 0} where
+  -- two in turn
+  pub two_behind : (n m l : List (Output S)) (parts f : List (Output S)) → m ≡ n ++ parts → l ≡ m ++ f → l ≡ n ++ (parts ++ f)
+  two_behind n m l parts f one other = other ∙ (ap (λ (x : List (Output S)). x ++ f) one ∙ append_assoc n parts f)
+
 -- ---- what steps say, and what others behind them say
 
 abbrev entries_in : List Executed → List Entry
@@ -58,10 +63,19 @@ module _ {S : Type 0} (s x y a b : PackedRecords S) (one : a ≡ x) (other : b �
   both_entries : entries_in (packed_joined a b).executed ≡ entries_in a.executed ++ entries_in b.executed
   both_entries = map-append (λ (x : Executed). x.entry) a.executed b.executed
 
-  pub all_sent : (app : Application S) (c : Codec S) (start : ℕ) (old mid new : List Outgoing) (f g : List (Output S))
-      → Sends app c start a.bag old f mid → Sends app c start b.bag mid g new → Sends app c start s.bag old (f ++ g) new
-  all_sent app c start old mid new f g h k =
-      subst (λ (r : PackedRecords S). Sends app c start r.bag old (f ++ g) new) both (sends_both app c start a.bag b.bag old mid new f g h k)
+  pub all_sent : (app : Application S) (c : Codec S) (start : ℕ) (old mid waiting new : List (PackedMessage S)) (going going' : List Outgoing)
+      (f g parts : List (Output S))
+      → SendsAll app c start a.bag old f mid → SendsAll app c start b.bag mid g waiting → Prepares app c start waiting going parts new going'
+      → Sends app c start s.bag old going (f ++ (g ++ parts)) new going'
+  all_sent app c start old mid waiting new going going' f g parts h k p = record {
+    frames = f ++ g;
+    parts = parts;
+    waiting = waiting;
+    sends = subst (λ (r : PackedRecords S). SendsAll app c start r.bag old (f ++ g) waiting) both
+        (sends_both app c start a.bag b.bag old mid waiting f g h k);
+    prepares = p;
+    leaves = sym (append_assoc f g parts);
+  }
 
   pub all_left : (o p q : Open) → p ≡ settled_all (entries_in a.executed) o → q ≡ settled_all (entries_in b.executed) p
       → q ≡ settled_all (entries_in s.executed) o

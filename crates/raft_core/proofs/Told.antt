@@ -49,14 +49,14 @@ module _ {S : Type 0} where
   replies_more (outputs.Reply r ∷ a) b = ap (λ rs. r ∷ rs) (replies_more a b)
   replies_more (outputs.Read r ∷ a) b = replies_more a b
   replies_more (outputs.Send to bytes ∷ a) b = replies_more a b
-  replies_more (outputs.Append bytes end ∷ a) b = replies_more a b
+  replies_more (outputs.Append bytes end next ∷ a) b = replies_more a b
   replies_more (outputs.Install snapshot ∷ a) b = replies_more a b
   replies_more (outputs.Execute entry ∷ a) b = replies_more a b
 
   pub none_sent : (out : List (Output S)) → AreSends out → replies_of out ≡ []
   none_sent [] h = refl
   none_sent (outputs.Send to bytes ∷ out) h = none_sent out h.1
-  none_sent (outputs.Append bytes end ∷ out) h = absurd h.0
+  none_sent (outputs.Append bytes end next ∷ out) h = absurd h.0
   none_sent (outputs.Install snapshot ∷ out) h = absurd h.0
   none_sent (outputs.Execute entry ∷ out) h = absurd h.0
   none_sent (outputs.Reply r ∷ out) h = absurd h.0
@@ -228,7 +228,7 @@ module _ {S : Type 0} (app : Application S) (c : Codec S) where
       es = map (λ x. x.entry) r.said.executed
 
       sends : replies_of r.frames ≡ []
-      sends = none_sent r.frames (messages_send app c old.start r.said.bag r.frames r.sends.leave)
+      sends = none_sent r.frames (messages_send app c old.start old.preparing new.preparing old.outgoing new.outgoing r.said.bag r.frames r.sends)
 
       executes : replies_of (said_outputs r.frames r.said old.requests.proposed) ≡ replies_of {S = S} (executed_outputs es old.requests.proposed)
       executes =

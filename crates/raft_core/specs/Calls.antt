@@ -28,7 +28,7 @@ use Rattle.raft_peers.specs.raft_packed_wire.Values.{kept}
 use Rattle.raft_peers.specs.raft_packed_server.declared.error.ServerError.{ServerError}
 use Rattle.raft_peers.specs.raft_packed_server.declared.batch.Written.{Written}
 use Rattle.raft_peers.specs.raft_packed_server.declared.serving.Serving.{Serving}
-use Rattle.raft_peers.specs.raft_packed_server.Checkpoints.{IsNewLog, with_new_log}
+use Rattle.raft_peers.specs.raft_packed_server.Checkpoints.{IsNewLog, TakesOver, with_next_log, without_next_log}
 use Rattle.raft_peers.specs.raft_packed_server.Recovery.{OpensOn}
 use Rattle.raft_peers.specs.raft_packed_server.Represents.{Flushes, HandsOut, Represents}
 use Rattle.raft_peers.specs.raft_packed_server.Views.{ServerView, released}
@@ -72,6 +72,7 @@ pub record Begins {S : Type 0} (app : Application S) (c : Codec S) (given : Give
   pub requests : o.core.requests ≡ no_requests
   pub executed : o.core.executed ≡ None
   pub reads : o.core.reads ≡ no_reads
+  pub preparing : o.core.preparing ≡ []
   pub outgoing : o.core.outgoing ≡ []
   pub incoming : o.core.incoming ≡ nothing 0
 
@@ -284,7 +285,7 @@ Asks app at id server old server' new = ((server' ≡ server) × (new ≡ old)) 
 -- Writes
 
 abbrev pub append : {S : Type 0} → Written → Output S
-append w = outputs.Append w.bytes.items w.end
+append w = outputs.Append w.bytes.items w.end (option_map (λ b. b.items) w.next)
 
 abbrev pub appended : {S : Type 0} → Option Written → List (Output S)
 appended written = map append (option_to_list written)
@@ -316,8 +317,8 @@ module _ {S : Type 0} (app : Application S) (c : Codec S) where
 
   -- Releases
 
-  -- What leaves is what the steps say whose records came on disk; and behind all that is to be executed the answers to the reads of a round
-  -- that is over then.
+  -- What leaves is what the steps say whose records came on disk, behind its frames a part of a snapshot that is encoded by then, if one is; and
+  -- behind all that is to be executed the answers to the reads of a round that is over then.
   pub record Releases (position : ℕ) (old : CoreView S) (out : List (Output S)) (new : CoreView S) : Type 0 where
     pub said : PackedRecords S
     pub frames : List (Output S)
@@ -325,9 +326,10 @@ module _ {S : Type 0} (app : Application S) (c : Codec S) where
     pub serves : old.server.serving ≢ None
     pub released : new.server.serving ≡ option_map (λ v. (released position v).1) old.server.serving
     pub given : new.server.given ≡ old.server.given
-    pub sends : Sends app c old.start said.bag old.outgoing frames new.outgoing
+    pub sends : Sends app c old.start said.bag old.preparing old.outgoing frames new.preparing new.outgoing
     pub rest : new ≡ record old {
       server = new.server;
+      preparing = new.preparing;
       outgoing = new.outgoing;
       requests = settled_all (map (λ x. x.entry) said.executed) old.requests;
       executed = handed_after said old.executed;
@@ -339,14 +341,24 @@ module _ {S : Type 0} (app : Application S) (c : Codec S) where
 -- New logs
 
 module _ {S : Type 0} (c : Codec S) where
-  -- a new log is handed out whole, which takes the old one's place: nothing else is done
+  -- a new log is handed out whole, and is on its way from then on: nothing else is done
   pub record BeginsNewLog (log : LogName) (old : CoreView S) (w : Written) (new : CoreView S) : Type 0 where
     pub serving : Serving S
     pub serves : old.server.serving ≡ Some serving
     pub is_new : IsNewLog c log serving w
-    pub rest : new ≡ record old { server = record old.server { serving = Some (with_new_log c log serving) } }
+    pub rest : new ≡ record old { server = record old.server { serving = Some (with_next_log c log serving) } }
 
   -- or none is
   abbrev pub MayBeginLog : LogName → CoreView S → Option Written → CoreView S → Type 0
   MayBeginLog log old None new = new ≡ old
   MayBeginLog log old (Some w) new = BeginsNewLog log old w new
+
+module _ {S : Type 0} where
+  -- it takes the old one's place, and its end is answered, or nothing is done
+  pub record TakesOverLog (old : CoreView S) (end : Option ℕ) (new : CoreView S) : Type 0 where
+    pub takes_over : TakesOver old.server.serving end new.server.serving
+    pub rest : new ≡ record old { server = record old.server { serving = new.server.serving } }
+
+  -- it is given up
+  abbrev pub GivesUpLog : CoreView S → CoreView S → Type 0
+  GivesUpLog old new = new ≡ record old { server = record old.server { serving = option_map without_next_log old.server.serving } }

@@ -1,6 +1,7 @@
 //! A server with its timers, the requests of its clients, and its limits.
 
 ghost use Rattle.std.specs.Prelude.{◌≡◌, ◌≤◌, ◌⊎◌, ◌∷◌, ◌++◌, [], IfOk, IfErr, IfSome, Ok, OnErr, OnOk, Some, map};
+ghost use Rattle.std.specs.Option.{option_map};
 ghost use Rattle.raft_chunks.specs.Chunks.{piece_of};
 ghost use Rattle.raft_chunks.specs.Form.{opened, piece};
 ghost use Rattle.raft_peers.specs.raft_packed_wire.declared.packet.SentPart.{SentPart as Part};
@@ -11,7 +12,7 @@ ghost use Rattle.raft_store.specs.declared.entry.Value.TheVariants.{Bytes};
 ghost use Rattle.raft_core.specs.Calls.{Admits, AdmitsRead, Answers, AnswersAfter, AnswersOverdue, Asks, Becomes, Begins, CompletesSnapshot};
 ghost use Rattle.raft_core.specs.Calls.{GoesOn, Hears, IsNextId, IsRefusal, KeepsPart, Loses, MayBeginLog, Moves, Proposes, ProposesBatch};
 ghost use Rattle.raft_core.specs.Calls.{Receives, RefusesAll, RefusesReads, Releases, TakesFrame, TakesMessage, Ticks, Writes, appended};
-ghost use Rattle.raft_core.specs.Calls.{engine_in, moment_in};
+ghost use Rattle.raft_core.specs.Calls.{GivesUpLog, TakesOverLog, engine_in, moment_in};
 ghost use Rattle.raft_core.specs.Outputs.{reads_out, replies_out};
 ghost use Rattle.raft_reads.specs.Reads.{with_heard};
 ghost use Rattle.raft_core.specs.Steps.{TakesAct};
@@ -42,6 +43,7 @@ use raft_peers::frame::{
 };
 use raft_peers::output::{Output, push};
 use raft_peers::parts::{Incoming, Outgoing, go_on, keep_of};
+use raft_peers::prepare::{Preparing, encode_some, keep_prepared};
 use raft_peers::raft_packed_server::raft_packed::{Machine, Packed};
 use raft_peers::raft_packed_server::raft_packed_node::{PackedAct, PackedMessage, StepError};
 use raft_peers::raft_packed_server::raft_packed_wire::{PackedContent, PackedPacket, SentPart};
@@ -54,6 +56,9 @@ use raft_state::{Items, LeaderId, LogId};
 use raft_store::Value;
 use std::alloc::{AllocError, Global};
 use std::marker::Model;
+
+/// About how many bytes of a snapshot are encoded at once: it takes less than a millisecond.
+const PIECE_BYTES: usize = 1 << 17;
 
 /// What clients have asked for without an answer so far.
 #[derive(Drop)]
@@ -84,7 +89,8 @@ pub struct RaftCore<M: Machine> {
     /// How many bytes were taken and proposed since no record waited last.
     unwritten: usize,
     log: LogLength,
-    /// The messages whose snapshots go out in parts: one for each server.
+    /// The messages whose snapshots are encoded, and those whose snapshots go out in parts: one for each server.
+    preparing: Vec<Preparing<M>>,
     outgoing: Vec<Outgoing>,
     incoming: Incoming,
 }
@@ -107,6 +113,7 @@ impl<M: Machine> Drop for RaftCore<M> {
             writing: _,
             unwritten: _,
             log: _,
+            preparing: _,
             outgoing: _,
             incoming: _,
         } = self;
@@ -126,6 +133,7 @@ impl<M: Machine> Model for RaftCore<M> {
       requests = s.clients.requests;
       executed = s.executed;
       reads = s.clients.reads;
+      preparing = s.preparing.items;
       outgoing = s.outgoing.items;
       incoming = s.incoming.assembly;
     } };
@@ -171,12 +179,15 @@ fn plan<M: Machine>(
     clock: &Clock,
     random: u64,
     asked_at: Option<u64>,
+    is_preparing: bool,
     length: &mut LogLength,
 ) -> Result<Plan, AllocError> {
     let Some(engine) = engine_of(server) else {
         return Ok(Plan::nothing(alloc));
     };
-    let is_held = length.lets_builds_wait() && policy.holds_build(engine, clock);
+    // a state that is being encoded is shared: to apply an entry to it copies it
+    let is_wanted = is_preparing || policy.holds_build(engine, clock);
+    let is_held = is_wanted && length.lets_builds_wait();
     let ends_build = is_building(server) && !is_held && length.ends_build();
     policy.tick(engine, clock, random, asked_at, ends_build)
 }
@@ -189,6 +200,13 @@ fn leads<M: Machine>(policy: &Policy, server: &Server<M>) -> Option<LeaderId<u64
 /// The term of the leader id under which requests are taken.
 fn lead_term<M: Machine>(policy: &Policy, server: &Server<M>) -> Option<u64> {
     Some(leads(policy, server)?.term)
+}
+
+/// The servers whose snapshots are encoded are waited for as if they had answered a part.
+fn wait_for<M: Machine>(preparing: &[Preparing<M>], policy: &mut Policy, clock: &Clock) {
+    for one in preparing {
+        policy.hear_part(one.to(), false, clock);
+    }
 }
 
 /// Another server that leads, as far as this one knows.
@@ -479,6 +497,16 @@ fn propose<M: Machine>(
     }
 }
 
+/// The bytes for a new log that is on its way, if one is.
+fn next_items(bytes: Option<Vec<u8>>) -> Option<Items<u8>>
+    ensures { result ≡ option_map (λ b. b.items) bytes }
+{
+    match bytes {
+        Some(bytes) => Some(Items::from_vec(bytes)),
+        None => None,
+    }
+}
+
 /// Bytes for the log's end leave.
 fn append<M: Machine>(
     written: Option<Written>,
@@ -491,6 +519,7 @@ fn append<M: Machine>(
             Output::Append {
                 bytes: Items::from_vec(written.bytes),
                 end: written.end,
+                next: next_items(written.next),
             },
             outputs,
         ),
@@ -554,6 +583,7 @@ impl<M: Machine> RaftCore<M> {
                 writing: None,
                 unwritten: 0,
                 log: LogLength::new(opened.end as u64, config.log_bytes),
+                preparing: Vec::new(alloc),
                 outgoing: Vec::new(alloc),
                 incoming: Incoming::new(alloc),
             },
@@ -584,6 +614,7 @@ impl<M: Machine> RaftCore<M> {
             &self.clock,
             random,
             self.clients.reads.asked_at(),
+            !self.preparing.is_empty(),
             &mut self.log,
         )?;
         take_all(&mut self.server, moves, &self.clock)?;
@@ -751,12 +782,12 @@ impl<M: Machine> RaftCore<M> {
         }
     }
 
-    /// Begins a new log, if the old one is long: gives its bytes, from the first on, which make what the old log makes. They take the
-    /// old log's place, durably and whole, before anything is appended. From then on positions are those of the new log: `flushed`
-    /// isn't called with one of the old log any more.
+    /// Begins a new log, if the old one is long: gives its bytes, from the first on, which make what the old log makes. They go to a file of
+    /// their own, and behind them what leaves for the new log from then on (`Append`), while the old log goes on. Once the file has all of
+    /// that, and is synced, [`take_over`](RaftCore::take_over) gives it the old log's place.
     ///
-    /// None if the log isn't long, while bytes are on their way to the disk or records wait, once the server has stopped, if a frame
-    /// can't hold the checkpoint, or out of memory: nothing has changed then.
+    /// None if the log isn't long, while a new one is on its way, while bytes are on their way to the disk or records wait, once the server
+    /// has stopped, if a frame can't hold the checkpoint, or out of memory: nothing has changed then.
     #[tactic(auto, using(crate::proofs::Begun::begins))]
     pub fn begin_log(&mut self, log: &LogName) -> Option<Written>
         ensures { MayBeginLog M.codec log.now self.old result self.new }
@@ -765,7 +796,7 @@ impl<M: Machine> RaftCore<M> {
             return None;
         }
         let Ok(begun) = self.server.begin_log(log) else {
-            self.log.note_begun();
+            self.log.note_failed();
             return None;
         };
         self.note_begun(&begun);
@@ -777,16 +808,49 @@ impl<M: Machine> RaftCore<M> {
         ensures { self.new ≡ self.old }
     {
         if let Some(written) = begun {
-            self.log.note_end(written.end);
-            self.log.note_begun();
+            self.log.note_begun(written.end);
         }
     }
 
+    /// The new log takes the old one's place, with all that was handed out: gives where it ends. It is called once the new file has all of
+    /// that, and is synced; then the file takes the old one's place, durably, before [`write`](RaftCore::write). From then on positions are
+    /// those of the new log: `flushed` isn't called with one of the old log any more.
+    ///
+    /// None, and nothing changes, if no new log is on its way, while bytes are on their way to the disk, or once the server has stopped.
+    pub fn take_over(&mut self) -> Option<u64>
+        ensures { TakesOverLog self.old result self.new }
+    {
+        let end = self.server.take_over();
+        self.note_taken_over(end);
+        end
+    }
+
+    /// A new log has the old one's place, if one took it.
+    fn note_taken_over(&mut self, end: Option<u64>)
+        ensures { self.new ≡ self.old }
+    {
+        if let Some(end) = end {
+            self.log.note_taken_over(end);
+        }
+    }
+
+    /// The new log can't be written, and is given up: the old one goes on alone. It is tried again once the log is twice as long.
+    pub fn give_up_log(&mut self)
+        ensures { GivesUpLog self.old self.new }
+    {
+        self.server.give_up_log();
+        self.log.note_failed();
+    }
+
     /// Makes a part of the snapshot's state, for which nothing waits: [`Server::fold_some`](raft_packed_server::Server::fold_some). Answers
-    /// whether more is left.
+    /// whether more is left. If a snapshot is to leave, it encodes a part of that instead: while they share a state, to apply an entry to it
+    /// copies it.
     pub fn fold_some(&mut self, most: usize) -> Result<bool, CoreError>
         ensures { OnOk result (self.new ≡ self.old) }
     {
+        if !self.preparing.is_empty() {
+            return Ok(encode_some(self.alloc, PIECE_BYTES, &mut self.preparing)?);
+        }
         Ok(self.server.fold_some(most)?)
     }
 
@@ -813,10 +877,14 @@ impl<M: Machine> RaftCore<M> {
         self.fold_if_long()?;
         let said = self.server.flushed(position)?;
         self.note_flushed(position);
-        keep_of(lead_term(&self.policy, &self.server), &mut self.outgoing);
+        let term = lead_term(&self.policy, &self.server);
+        keep_prepared(term, &mut self.preparing);
+        keep_of(term, &mut self.outgoing);
+        wait_for(&self.preparing, &mut self.policy, &self.clock);
         let sender = Sender {
             start: self.start,
             most: self.peers.part_bytes,
+            each: PIECE_BYTES,
             room: self.log.room(),
         };
         Ok(leave(
@@ -826,6 +894,7 @@ impl<M: Machine> RaftCore<M> {
             &mut self.clients.requests,
             &mut self.executed,
             &mut self.clients.reads,
+            &mut self.preparing,
             &mut self.outgoing,
         )?)
     }

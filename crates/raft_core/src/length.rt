@@ -16,6 +16,8 @@ pub struct LogLength {
     grown: u64,
     /// Whether a build has ended since the log's end was noted.
     has_built: bool,
+    /// Where the checkpoint ends of a new log, if one is on its way.
+    next: Option<u64>,
 }
 
 impl LogLength {
@@ -28,12 +30,13 @@ impl LogLength {
             built: 0,
             grown: 0,
             has_built: false,
+            next: None,
         }
     }
 
-    /// Whether a new log is worth its bytes: behind the old one's checkpoint came as many as that has.
+    /// Whether a new log is worth its bytes: behind the old one's checkpoint came as many as that has, and none is on its way.
     pub fn is_long(&self) -> bool {
-        self.end >= self.least.max(self.begun.saturating_mul(2))
+        self.next.is_none() && self.end >= self.least.max(self.begun.saturating_mul(2))
     }
 
     /// Whether a build is to end now, which is noted: behind the snapshot before came as many bytes as that has, and a frame can hold
@@ -67,8 +70,21 @@ impl LogLength {
         self.end = end;
     }
 
-    /// The log ends with its checkpoint. One that can't be made counts as such: it is tried again once the log is twice as long.
-    pub fn note_begun(&mut self) {
+    /// A new log is on its way, whose checkpoint ends there.
+    pub fn note_begun(&mut self, end: u64) {
+        self.next = Some(end);
+    }
+
+    /// It has the old one's place, and ends there.
+    pub fn note_taken_over(&mut self, end: u64) {
+        self.begun = self.next.unwrap_or(end);
+        self.next = None;
+        self.end = end;
+    }
+
+    /// A new log can't be made, or written. The old one counts as a checkpoint: it is tried again once that is twice as long.
+    pub fn note_failed(&mut self) {
         self.begun = self.end;
+        self.next = None;
     }
 }

@@ -15,8 +15,11 @@
 //!    commit, wait for no sync of their own: `flushed` is called before and after `write` too, with the position of the last
 //!    sync, or 0.
 //! 4. [`RaftCore::begin_log`] before `write`, if nothing is on its way to the disk: the bytes of a new log, once the old one is long.
-//!    They take the old log's place, durably and whole, before anything is appended; positions are then those of the new log.
-//! 5. [`RaftCore::fold_some`] while nothing else is to be done: the state of a snapshot is made by and by.
+//!    They go to a file of their own, while the old log goes on, and what is written from then on goes to both. Once the new file is
+//!    synced with all of it, [`RaftCore::take_over`], and the file takes the old log's place, durably, before anything more is written;
+//!    positions are then those of the new log.
+//! 5. [`RaftCore::fold_some`] while nothing else is to be done: the state of a snapshot is made by and by, and the bytes of one that is to
+//!    leave.
 //! 6. It does what the outputs say, in their order. The reply to a write follows the entry that was executed for it; a read is
 //!    answered with what the state machine says after all entries that stand before the answer.
 //!
@@ -27,11 +30,11 @@
 //!
 //! # What isn't there
 //!
-//! Snapshots in pieces on disk: each is encoded, decoded and kept whole. It leaves in parts, of at most `part_bytes`, and one that is
-//! interrupted goes on from where it was. A message has as many entries as the settings' `max_payload_entries`, each with a value of at
-//! most `value_bytes`: together they are to be less than `frame_bytes`, and so is a part with its message. A server
-//! whose records have more than [`MAX_FRAME`](raft_frames::MAX_FRAME) bytes, as those of a larger snapshot, stops. Which bytes wait
-//! for a peer the caller knows alone.
+//! Snapshots in pieces on disk: each is decoded and kept whole. One of more than `part_bytes` is encoded step by step before it leaves, and
+//! leaves in parts of at most as many; one that is interrupted goes on from where it was. A message has as many entries as the settings'
+//! `max_payload_entries`, each with a value of at most `value_bytes`: together they are to be less than `frame_bytes`, and so is a part
+//! with its message. A server whose records have more than [`MAX_FRAME`](raft_frames::MAX_FRAME) bytes, as those of a larger snapshot,
+//! stops. Which bytes wait for a peer the caller knows alone.
 #![tactic(auto)]
 
 pub use raft_peers::raft_packed_server;

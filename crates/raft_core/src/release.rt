@@ -12,6 +12,7 @@ use raft_answers::{Reply, Requests};
 use raft_node::record::Executed;
 use raft_peers::output::{Output, push};
 use raft_peers::parts::Outgoing;
+use raft_peers::prepare::{Preparing, prepare_some};
 use raft_peers::raft_packed_server::Said;
 use raft_peers::raft_packed_server::raft_packed::Machine;
 use raft_peers::raft_packed_server::raft_packed_node::PackedInstalled;
@@ -130,17 +131,27 @@ fn release<M: Machine>(
     sender: Sender,
     said: Said<M>,
     requests: &mut Requests,
+    preparing: &mut Vec<Preparing<M>>,
     going: &mut Vec<Outgoing>,
 ) -> Result<Vec<Output<M>>, AllocError>
     ensures left { OnOk result (requests.new ≡ settled_all (map (λ x. x.entry) said.executed) requests.old) }
     ensures outputs { IfOk result (λ outputs. (frames : List (Output M))
-        × Sends M.application M.codec sender.start said.bag going.old.items frames going.new.items
+        × Sends M.application M.codec sender.start said.bag preparing.old.items going.old.items frames preparing.new.items going.new.items
         × (outputs.items ≡ said_outputs frames said requests.old.proposed)) }
 {
     let Said { batch, rest } = said;
     let mut outputs = Vec::new(alloc);
-    send_all(alloc, sender, batch.messages, going, &mut outputs)?;
-    send_all(alloc, sender, rest.messages, going, &mut outputs)?;
+    send_all(alloc, sender, batch.messages, preparing, &mut outputs)?;
+    send_all(alloc, sender, rest.messages, preparing, &mut outputs)?;
+    prepare_some(
+        alloc,
+        sender.start,
+        sender.most,
+        sender.each,
+        preparing,
+        going,
+        &mut outputs,
+    )?;
     install_all(batch.installed, &mut outputs)?;
     install_all(rest.installed, &mut outputs)?;
     execute_all(alloc, batch.executed, requests, &mut outputs)?;
@@ -166,20 +177,21 @@ pub fn leave<M: Machine>(
     requests: &mut Requests,
     executed: &mut Option<u64>,
     reads: &mut Reads,
+    preparing: &mut Vec<Preparing<M>>,
     going: &mut Vec<Outgoing>,
 ) -> Result<Vec<Output<M>>, AllocError>
     ensures requests { OnOk result (requests.new ≡ settled_all (map (λ x. x.entry) said.executed) requests.old) }
     ensures executed { OnOk result (executed.new ≡ handed_after said executed.old) }
     ensures reads { OnOk result (reads.new ≡ read_left (handed_after said executed.old) (with_left said.answers reads.old)) }
     ensures outputs { IfOk result (λ outputs. (frames : List (Output M))
-        × Sends M.application M.codec sender.start said.bag going.old.items frames going.new.items
+        × Sends M.application M.codec sender.start said.bag preparing.old.items going.old.items frames preparing.new.items going.new.items
         × (outputs.items ≡ said_outputs frames said requests.old.proposed
         ++ reads_out (read_replies (handed_after said executed.old) (with_left said.answers reads.old)))) }
 {
     let last = handed_after(&said, *executed);
     *executed = last;
     note_answers(&said, reads);
-    let mut outputs = release(alloc, sender, said, requests, going)?;
+    let mut outputs = release(alloc, sender, said, requests, preparing, going)?;
     let mut told = Vec::new(alloc);
     reads.answer(last, &mut told)?;
     read_all(told, &mut outputs)?;

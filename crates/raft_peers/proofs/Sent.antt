@@ -1,6 +1,6 @@
 -- Messages that leave, one behind the other.
-use Rattle.std.proofs.Common.{ℕ, ◌≡◌, ◌∙◌, ⊎_elim, inl, inr, List, [], ◌∷◌, ◌++◌, refl, sym, ap, subst, append_assoc}
-use Rattle.std.specs.Prelude.{◌⊎◌, Contains, Err, Ok, OnOk, Option, Result, Some}
+use Rattle.std.proofs.Common.{ℕ, ◌≡◌, ◌∙◌, ⊎_elim, inl, inr, List, [], ◌∷◌, ◌++◌, refl, sym, subst, append_assoc}
+use Rattle.std.specs.Prelude.{◌⊎◌, Contains, Err, Ok, OnOk, Result}
 use Rattle.std.proofs.lemmas.List.{append-nil}
 use Rattle.std.proofs.lemmas.List.Elements.{Contains-append_left, Contains-append_right, Contains-push}
 use Rattle.raft_codec.specs.Codec.{Codec}
@@ -10,8 +10,7 @@ use Rattle.raft_packed_server.specs.raft_packed_wire.declared.packet.SentMessage
 use Rattle.raft_packed_server.specs.raft_packed_wire.Messages.{packed_packet, received}
 use Rattle.raft_packed_server.specs.raft_packed_wire.Values.{kept}
 use Rattle.raft_peers.specs.declared.output.Output.{Output}
-use Rattle.raft_peers.specs.Parts.{AreParts, Outgoing, outgoing_of}
-use Rattle.raft_peers.specs.Sends.{BringsSnapshot, IsBegun, LeaveAll, LeavesInParts, LeavesWhole, Sends, packet_of, sent}
+use Rattle.raft_peers.specs.Sends.{BringsSnapshot, IsPreparing, LeaveAll, LeavesWhole, SendsAll, packet_of, sent}
 
 module _ {S : Type 0} (app : Application S) (c : Codec S) (start : ℕ) where
   leave_both : (ms ns : List (PackedMessage S)) (a b : List (Output S)) → LeaveAll app c start ms a → LeaveAll app c start ns b
@@ -20,76 +19,54 @@ module _ {S : Type 0} (app : Application S) (c : Codec S) (start : ℕ) where
   leave_both (m ∷ ms) ns a b (front, rest, is, one, others) k =
       (front, rest ++ b, (λ i. is i ++ b) ∙ append_assoc front rest b, one, leave_both ms ns rest b others k)
 
-  begun_in : (ms ns : List (PackedMessage S)) → ((m : PackedMessage S) → Contains ms m → Contains ns m) → (o : Outgoing)
-      → IsBegun app c start ms o → IsBegun app c start ns o
-  begun_in ms ns f o h = record { message = h.message; among = f h.message h.among; fits = h.fits; is = h.is }
-
-  pub sends_both : (ms ns : List (PackedMessage S)) (old mid new : List Outgoing) (a b : List (Output S)) → Sends app c start ms old a mid
-      → Sends app c start ns mid b new → Sends app c start (ms ++ ns) old (a ++ b) new
+  pub sends_both : (ms ns old mid new : List (PackedMessage S)) (a b : List (Output S)) → SendsAll app c start ms old a mid
+      → SendsAll app c start ns mid b new → SendsAll app c start (ms ++ ns) old (a ++ b) new
   sends_both ms ns old mid new a b h k = record {
     leave = leave_both ms ns a b h.leave k.leave;
-    outgoing = λ o there. ⊎_elim
-        (λ before. ⊎_elim (λ x. inl x) (λ x. inr (begun_in ms (ms ++ ns) (Contains-append_left ms ns) o x)) (h.outgoing o before))
-        (λ x. inr (begun_in ns (ms ++ ns) (Contains-append_right ms ns) o x)) (k.outgoing o there);
+    preparing = λ m there. ⊎_elim
+        (λ before. ⊎_elim (λ x. inl x) (λ x. inr (Contains-append_left ms ns m x)) (h.preparing m before))
+        (λ x. inr (Contains-append_right ms ns m x)) (k.preparing m there);
   }
 
-  pub sends_none : (old : List Outgoing) → Sends app c start [] old [] old
-  sends_none old = record { leave = refl; outgoing = λ o there. inl there }
-
-  -- a message that begins to go out in parts, or leaves whole
-  pub goes_in_parts : (m : PackedMessage S) (one : Outgoing) (out : List (Output S)) → one ≡ outgoing_of c m → BringsSnapshot m.message.body
-      → (kept c).fits m.brought → AreParts c start one out → LeavesWhole app c start m out ⊎ LeavesInParts app c start m out
-  goes_in_parts m one out is brings fits parts =
-      inr (record { brings = brings; fits = fits; parts = subst (λ (o : Outgoing). AreParts c start o out) is parts })
-
-  pub goes_whole : (m : PackedMessage S) (packet : SentMessage (Packed S)) → received app packet ≡ m
-      → (packed_packet (kept c)).fits (packet_of start packet)
-      → LeavesWhole app c start m (sent c start packet ∷ []) ⊎ LeavesInParts app c start m (sent c start packet ∷ [])
-  goes_whole m packet is fits = inl (record { packet = packet; of_message = is; fits = fits; leaves = refl })
-
-  pub begun_one : (m : PackedMessage S) (one : Outgoing) (old new : List Outgoing) → one ≡ outgoing_of c m → (kept c).fits m.brought
-      → ((o : Outgoing) → Contains new o → Contains old o ⊎ (o ≡ one)) → (o : Outgoing) → Contains new o
-      → Contains old o ⊎ IsBegun app c start (m ∷ []) o
-  begun_one m one old new is fits comes o there =
-      ⊎_elim (λ x. inl x) (λ e. inr (record { message = m; among = Contains-push [] m; fits = fits; is = e ∙ is })) (comes o there)
-
-  -- the snapshot that is beside a message is what it brings
-  pub brings_it : (m : SentMessage (Packed S)) (p : Packed S) → m.snapshot ≡ Some p → (received app m).brought ≡ p
-  brings_it m p is = ap (λ (s : Option (Packed S)). (received app (record m { snapshot = s })).brought) is
+  pub sends_none : (old : List (PackedMessage S)) → SendsAll app c start [] old [] old
+  sends_none old = record { leave = refl; preparing = λ m there. inl there }
 
   -- what leaves of a message
   abbrev Leaves : PackedMessage S → List (Output S) → List (Output S) → Type 0
-  Leaves m old new = (out : List (Output S)) × (new ≡ old ++ out) × (LeavesWhole app c start m out ⊎ LeavesInParts app c start m out)
+  Leaves m old new =
+      (out : List (Output S)) × (new ≡ old ++ out) × (LeavesWhole app c start m out ⊎ IsPreparing app c start m out)
 
-  pub begun_leaves : {T E : Type 0} (r : Result T E) (m : PackedMessage S) (one : Outgoing) (old new : List (Output S)) → one ≡ outgoing_of c m
-      → BringsSnapshot m.message.body → (kept c).fits m.brought → OnOk r ((out : List (Output S)) × AreParts c start one out × (new ≡ old ++ out))
-      → OnOk r (Leaves m old new)
-  begun_leaves (Ok x) m one old new is brings fits leaves = (leaves.0, leaves.2, goes_in_parts m one leaves.0 is brings fits leaves.1)
-  begun_leaves (Err e) m one old new is brings fits leaves = tt
+  pub sent_leaves : {T E : Type 0} (r : Result T E) (m same : PackedMessage S) (packet : SentMessage (Packed S)) (old new : List (Output S))
+      → same ≡ m → received app packet ≡ same → OnOk r (new ≡ old ++ sent c start packet ∷ [])
+      → OnOk r ((packed_packet (kept c)).fits (packet_of start packet)) → OnOk r (Leaves m old new)
+  sent_leaves (Ok x) m same packet old new is of leaves fits =
+      (sent c start packet ∷ [], leaves, inl (record { packet = packet; of_message = of ∙ is; fits = fits; leaves = refl }))
+  sent_leaves (Err e) m same packet old new is of leaves fits = tt
 
-  pub sent_leaves : {T E : Type 0} (r : Result T E) (m : PackedMessage S) (packet : SentMessage (Packed S)) (old new : List (Output S))
-      → received app packet ≡ m → OnOk r (new ≡ old ++ sent c start packet ∷ []) → OnOk r ((packed_packet (kept c)).fits (packet_of start packet))
-      → OnOk r (Leaves m old new)
-  sent_leaves (Ok x) m packet old new is leaves fits = (sent c start packet ∷ [], leaves, goes_whole m packet is fits)
-  sent_leaves (Err e) m packet old new is leaves fits = tt
+  pub prepared_leaves : {T E : Type 0} (r : Result T E) (m : PackedMessage S) (old : List (Output S)) → BringsSnapshot m.message.body
+      → OnOk r (Leaves m old old)
+  prepared_leaves (Ok x) m old brings = ([], sym (append-nil old), inr (record { brings = brings; leaves = refl }))
+  prepared_leaves (Err e) m old brings = tt
 
-  -- and what goes out in parts
-  pub begun_going : {T E : Type 0} (r : Result T E) (m : PackedMessage S) (one : Outgoing) (old new : List Outgoing) → one ≡ outgoing_of c m
-      → (kept c).fits m.brought → OnOk r ((o : Outgoing) → Contains new o → Contains old o ⊎ (o ≡ one))
-      → OnOk r ((o : Outgoing) → Contains new o → Contains old o ⊎ IsBegun app c start (m ∷ []) o)
-  begun_going (Ok x) m one old new is fits comes = begun_one m one old new is fits comes
-  begun_going (Err e) m one old new is fits comes = tt
+  -- and what is prepared then
+  abbrev Prepared : PackedMessage S → List (PackedMessage S) → List (PackedMessage S) → Type 0
+  Prepared m old new = (x : PackedMessage S) → Contains new x → Contains old x ⊎ Contains (m ∷ []) x
 
-  pub sent_going : {T E : Type 0} (r : Result T E) (m : PackedMessage S) (old : List Outgoing)
-      → OnOk r ((o : Outgoing) → Contains old o → Contains old o ⊎ IsBegun app c start (m ∷ []) o)
-  sent_going (Ok x) m old = λ o there. inl there
-  sent_going (Err e) m old = tt
+  pub sent_prepared : {T E : Type 0} (r : Result T E) (m : PackedMessage S) (old : List (PackedMessage S)) → OnOk r (Prepared m old old)
+  sent_prepared (Ok x) m old = λ y there. inl there
+  sent_prepared (Err e) m old = tt
+
+  pub prepared : {T E : Type 0} (r : Result T E) (m one : PackedMessage S) (old new : List (PackedMessage S)) → one ≡ m
+      → OnOk r ((x : PackedMessage S) → Contains new x → Contains old x ⊎ (x ≡ one)) → OnOk r (Prepared m old new)
+  prepared (Ok y) m one old new is comes =
+      λ x there. ⊎_elim (λ d. inl d) (λ e. inr (subst (Contains (m ∷ [])) (sym (e ∙ is)) (Contains-push [] m))) (comes x there)
+  prepared (Err e) m one old new is comes = tt
 
   -- one more
-  pub sends_more : (ms : List (PackedMessage S)) (m : PackedMessage S) (old mid new : List Outgoing) (a b : List (Output S))
-      → Sends app c start ms old a mid
-      → LeavesWhole app c start m b ⊎ LeavesInParts app c start m b
-      → ((o : Outgoing) → Contains new o → Contains mid o ⊎ IsBegun app c start (m ∷ []) o)
-      → Sends app c start (ms ++ m ∷ []) old (a ++ b) new
-  sends_more ms m old mid new a b h leaves begun =
-      sends_both ms (m ∷ []) old mid new a b h (record { leave = (b, [], sym (append-nil b), leaves, refl); outgoing = begun })
+  pub sends_more : (ms : List (PackedMessage S)) (m : PackedMessage S) (old mid new : List (PackedMessage S)) (a b : List (Output S))
+      → SendsAll app c start ms old a mid
+      → LeavesWhole app c start m b ⊎ IsPreparing app c start m b
+      → Prepared m mid new
+      → SendsAll app c start (ms ++ m ∷ []) old (a ++ b) new
+  sends_more ms m old mid new a b h leaves more =
+      sends_both ms (m ∷ []) old mid new a b h (record { leave = (b, [], sym (append-nil b), leaves, refl); preparing = more })

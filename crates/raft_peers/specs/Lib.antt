@@ -6,3 +6,5 @@ pub mod raft_packed_server
 pub mod Parts
 pub mod Frames
 pub mod Sends
+pub mod Preparing
+pub mod Leaving

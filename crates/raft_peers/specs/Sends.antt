@@ -39,7 +39,12 @@ module _ {S : Type 0} (app : Application S) (c : Codec S) (start : ℕ) where
     pub fits : (packed_packet (kept c)).fits (packet_of start packet)
     pub leaves : out ≡ sent c start packet ∷ []
 
-  -- or it leaves in parts: some of them now, and the others later
+  -- or nothing of it leaves yet: its snapshot is to be encoded first, step by step
+  pub record IsPreparing (m : PackedMessage S) (out : List (Output S)) : Type 0 where
+    pub brings : BringsSnapshot m.message.body
+    pub leaves : out ≡ []
+
+  -- once it is, it leaves in parts: some of them now, and the others later
   pub record LeavesInParts (m : PackedMessage S) (out : List (Output S)) : Type 0 where
     pub brings : BringsSnapshot m.message.body
     pub fits : (kept c).fits m.brought
@@ -49,7 +54,7 @@ module _ {S : Type 0} (app : Application S) (c : Codec S) (start : ℕ) where
   abbrev pub LeaveAll : List (PackedMessage S) → List (Output S) → Type 0
   LeaveAll [] out = out ≡ []
   LeaveAll (m ∷ ms) out =
-      (front rest : List (Output S)) × (out ≡ front ++ rest) × (LeavesWhole m front ⊎ LeavesInParts m front) × LeaveAll ms rest
+      (front rest : List (Output S)) × (out ≡ front ++ rest) × (LeavesWhole m front ⊎ IsPreparing m front) × LeaveAll ms rest
 
   -- a message among these goes out in parts
   pub record IsBegun (messages : List (PackedMessage S)) (o : Outgoing) : Type 0 where
@@ -58,7 +63,26 @@ module _ {S : Type 0} (app : Application S) (c : Codec S) (start : ℕ) where
     pub fits : (kept c).fits message.brought
     pub is : o ≡ outgoing_of c message
 
-  -- What messages leave. What is outgoing by then was before, or is one of them.
-  pub record Sends (messages : List (PackedMessage S)) (old : List Outgoing) (out : List (Output S)) (new : List Outgoing) : Type 0 where
+  -- What messages leave. Those whose snapshots are being encoded by then were before, or are among them.
+  pub record SendsAll (messages : List (PackedMessage S)) (old : List (PackedMessage S)) (out : List (Output S)) (new : List (PackedMessage S))
+      : Type 0 where
     pub leave : LeaveAll messages out
-    pub outgoing : (o : Outgoing) → Contains new o → Contains old o ⊎ IsBegun messages o
+    pub preparing : (m : PackedMessage S) → Contains new m → Contains old m ⊎ Contains messages m
+
+  -- What leaves of those whose snapshots are being encoded: nothing, or parts of one that is encoded by then. What is outgoing by then was before,
+  -- or is of such a one.
+  pub record Prepares (old : List (PackedMessage S)) (going : List Outgoing) (out : List (Output S)) (new : List (PackedMessage S))
+      (going' : List Outgoing) : Type 0 where
+    pub preparing : (m : PackedMessage S) → Contains new m → Contains old m
+    pub outgoing : (o : Outgoing) → Contains going' o → Contains going o ⊎ IsBegun old o
+    pub leaves : (out ≡ []) ⊎ ((m : PackedMessage S) × Contains old m × LeavesInParts m out)
+
+  -- what messages leave, and behind it such parts, which may be of one of them
+  pub record Sends (messages : List (PackedMessage S)) (old : List (PackedMessage S)) (going : List Outgoing) (out : List (Output S))
+      (new : List (PackedMessage S)) (going' : List Outgoing) : Type 0 where
+    pub frames : List (Output S)
+    pub parts : List (Output S)
+    pub waiting : List (PackedMessage S)
+    pub sends : SendsAll messages old frames waiting
+    pub prepares : Prepares waiting going parts new going'
+    pub leaves : out ≡ frames ++ parts

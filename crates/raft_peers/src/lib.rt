@@ -7,4 +7,5 @@ pub use raft_packed_server;
 pub mod frame;
 pub mod output;
 pub mod parts;
+pub mod prepare;
 pub mod send;

@@ -12,9 +12,17 @@ use std::alloc::AllocError;
 #[derive(Drop)]
 pub enum Output<M: Machine> {
     /// Send these bytes to a peer, as one frame of a stream.
-    Send { to: u64, bytes: Items<u8> },
-    /// Append these bytes to the log and sync them; then `flushed` is called with their end.
-    Append { bytes: Items<u8>, end: u64 },
+    Send {
+        to: u64,
+        bytes: Items<u8>,
+    },
+    /// Append these bytes to the log and sync them; then `flushed` is called with their end. If a new log is on its way, `next` are its
+    /// bytes, to be appended to its file.
+    Append {
+        bytes: Items<u8>,
+        end: u64,
+        next: Option<Items<u8>>,
+    },
     /// Put a snapshot's state in place of the state machine's.
     Install(Packed<M>),
     /// Execute an entry at the state machine.

@@ -5,7 +5,7 @@ ghost use Rattle.std.specs.List.{AllByRecursion};
 ghost use Rattle.raft_codec.specs.Codec.{IsFound};
 ghost use Rattle.raft_frames.specs.Laws.{IsByte};
 ghost use Rattle.raft_chunks.specs.Assembly.{nothing, taken};
-ghost use Rattle.raft_chunks.specs.Chunks.{piece_of};
+ghost use Rattle.raft_chunks.specs.Chunks.{piece_of, title_of};
 ghost use Rattle.raft_chunks.specs.Form.{opened, piece, sealed};
 ghost use Rattle.raft_packed_server.specs.proof_packed.Stores.{Packed as Snapshot};
 ghost use Rattle.raft_packed_server.specs.raft_packed_wire.Values.{kept};
@@ -17,9 +17,7 @@ use crate::output::{Output, push};
 use raft_calls::message::{Body, Message, Origin};
 use raft_chunks::{Assembly, Chunk, Cursor, TakeError, Title};
 use raft_packed_server::raft_packed::{Machine, Packed};
-use raft_packed_server::raft_packed_wire::{
-    PackedContent, PackedPacket, SentPart, read_packed, write_packed,
-};
+use raft_packed_server::raft_packed_wire::{PackedContent, PackedPacket, SentPart, read_packed};
 use raft_state::Items;
 use raft_wire::{DecodeError, Reader};
 use std::alloc::{AllocError, Global};
@@ -53,18 +51,12 @@ pub fn origin_of(message: &Message) -> Option<Origin> {
     }
 }
 
-/// The bytes of a snapshot, with room for so many from the start.
-pub fn snapshot_bytes<M: Machine>(
-    alloc: Global,
-    room: usize,
-    snapshot: &Packed<M>,
-) -> Result<Vec<u8>, AllocError>
-    ensures fits { OnOk result ((kept M.codec).fits snapshot.now) }
-    ensures bytes { IfOk result (λ bytes. bytes.items ≡ (kept M.codec).bytes snapshot.now) }
-{
-    let mut bytes = Vec::with_capacity(alloc, room)?;
-    write_packed(&mut bytes, snapshot)?;
-    Ok(bytes)
+/// Whether a message from there is of the leader of this term.
+pub(crate) fn is_of(origin: Option<Origin>, term: Option<u64>) -> bool {
+    match origin {
+        Some(origin) => term == Some(origin.session_id.vote.leader_id.term),
+        None => false,
+    }
 }
 
 /// The snapshot whose bytes these are: all of them.
@@ -107,11 +99,12 @@ fn seal(alloc: Global, chunk: &Chunk<'_>) -> Result<Vec<u8>, AllocError>
 }
 
 impl Outgoing {
-    /// A message that brings a snapshot of so many entries, with these bytes.
-    pub fn new(message: Message, number: u64, bytes: Vec<u8>) -> Self
-        ensures { result ≡ record { message = message; number = number; bytes = bytes.items } }
+    /// A message that brings a snapshot with these bytes, which have this title.
+    pub(crate) fn titled(message: Message, title: Title, bytes: Vec<u8>) -> Self
+        requires { title ≡ title_of title.number bytes.items }
+        ensures { result ≡ record { message = message; number = title.number; bytes = bytes.items } }
     {
-        let at = Cursor::start(Title::of(number, &bytes));
+        let at = Cursor::start(title);
         Outgoing { message, bytes, at }
     }
 
@@ -237,10 +230,7 @@ pub fn begin<M: Machine>(
 pub fn keep_of(term: Option<u64>, outgoing: &mut Vec<Outgoing>)
     ensures { (o : Going) → Contains outgoing.new.items o → Contains outgoing.old.items o }
 {
-    outgoing.retain(|one| match one.origin() {
-        Some(origin) => term == Some(origin.session_id.vote.leader_id.term),
-        None => false,
-    });
+    outgoing.retain(|one| is_of(one.origin(), term));
 }
 
 /// A snapshot that comes in parts, as far as they came, and which request's was whole last.

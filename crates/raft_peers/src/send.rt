@@ -1,15 +1,16 @@
-//! What leaves for other servers: messages in packets, or in parts.
+//! What leaves for other servers: messages in packets, or once their snapshots are encoded.
 
-ghost use Rattle.std.specs.Prelude.{◌≡◌, ◌⊎◌, ◌++◌, ◌∷◌, [], Contains, IfOk, IfSome, List, OnOk};
+ghost use Rattle.std.specs.Prelude.{◌≡◌, ◌⊎◌, ◌++◌, ◌∷◌, [], Contains, IfOk, IsTrue, List, OnOk};
+ghost use Rattle.raft_packed_server.specs.proof_packed.Nodes.{PackedMessage as Prepared};
 ghost use Rattle.raft_packed_server.specs.raft_packed_wire.Messages.{packed_packet};
 ghost use Rattle.raft_packed_server.specs.raft_packed_wire.Values.{kept};
-ghost use Rattle.raft_peers.specs.Parts.{Outgoing as Going, outgoing_of};
-ghost use Rattle.raft_peers.specs.Sends.{BringsSnapshot, IsBegun, LeavesInParts, LeavesWhole, Sends, packet_of, sent};
+ghost use Rattle.raft_peers.specs.Leaving.{IsLeaving};
+ghost use Rattle.raft_peers.specs.Sends.{BringsSnapshot, IsPreparing, LeavesWhole, SendsAll, packet_of, sent};
 ghost use Rattle.raft_peers.specs.declared.output.Output.{Output};
 
 use crate::frame::packet_bytes;
 use crate::output::{Output, push};
-use crate::parts::{Outgoing, begin, snapshot_bytes};
+use crate::prepare::{Preparing, prepare};
 use raft_packed_server::raft_packed::{Machine, Packed};
 use raft_packed_server::raft_packed_node::PackedMessage;
 use raft_packed_server::raft_packed_wire::{PackedContent, PackedPacket, SentMessage};
@@ -42,73 +43,87 @@ pub struct Sender {
     pub start: u64,
     /// The most bytes of a snapshot that leave in a frame.
     pub most: usize,
+    /// About how many of them are encoded at once.
+    pub each: usize,
     /// For how many bytes of a snapshot there is room from the start.
     pub room: usize,
 }
 
-/// The snapshot that a request to install brings.
-fn brought<M: Machine>(message: &PackedMessage<M>) -> Option<&Packed<M>>
-    ensures { IfSome result (λ p. BringsSnapshot message.now.message.body × (p.now ≡ message.now.brought)) }
-{
-    match (&message.message.body, &message.snapshot) {
-        (Body::SnapshotRequest { .. }, Some(snapshot)) => Some(snapshot),
-        _ => None,
-    }
+/// A message that leaves at once, or once its snapshot is encoded.
+#[derive(Drop)]
+enum Leaving<M: Machine> {
+    Whole(PackedMessage<M>),
+    InParts(Preparing<M>),
 }
 
-/// A message as it goes out in parts, if it brings a snapshot of more bytes than leave in a frame.
-fn outgoing<M: Machine>(
+/// Whether it is a request to install a snapshot.
+fn brings_snapshot(body: &Body) -> bool
+    ensures { IsTrue result → BringsSnapshot body.now }
+{
+    matches!(body, Body::SnapshotRequest { .. })
+}
+
+/// How a message leaves: at once, unless it brings a snapshot of more than so many bytes. Of that no more than about as many are encoded yet.
+fn begin_leaving<M: Machine>(
     alloc: Global,
     sender: Sender,
-    message: &PackedMessage<M>,
-) -> Result<Option<Outgoing>, AllocError>
-    ensures { IfOk result (λ found. IfSome found (λ o. (o ≡ outgoing_of M.codec message.now)
-        × BringsSnapshot message.now.message.body × (kept M.codec).fits message.now.brought)) }
+    message: PackedMessage<M>,
+) -> Result<Leaving<M>, AllocError>
+    ensures { IfOk result (λ leaving. IsLeaving message leaving) }
 {
-    let Some(snapshot) = brought(message) else {
-        return Ok(None);
-    };
-    let bytes = snapshot_bytes(alloc, sender.room, snapshot)?;
-    if bytes.len() <= sender.most {
-        return Ok(None);
+    if !brings_snapshot(&message.message.body) {
+        return Ok(Leaving::Whole(message));
     }
-    let copied = message.message.copy(alloc)?;
-    Ok(Some(Outgoing::new(copied, snapshot.end(), bytes)))
+    let PackedMessage { message, snapshot } = message;
+    let Some(snapshot) = snapshot else {
+        return Ok(Leaving::Whole(PackedMessage {
+            message,
+            snapshot: None,
+        }));
+    };
+    let begun = Preparing::new(alloc, sender.room, message, snapshot)?;
+    let one = begun.encode_front(alloc, sender.most)?;
+    if one.is_small(sender.most) {
+        Ok(Leaving::Whole(one.into_message()))
+    } else {
+        Ok(Leaving::InParts(one))
+    }
 }
 
-/// A message leaves in a packet; or it begins to go out in parts.
+/// A message leaves in a packet; or its snapshot is to be encoded first.
 fn send_one<M: Machine>(
     alloc: Global,
     sender: Sender,
     message: PackedMessage<M>,
-    going: &mut Vec<Outgoing>,
+    preparing: &mut Vec<Preparing<M>>,
     outputs: &mut Vec<Output<M>>,
 ) -> Result<(), AllocError>
     ensures leaves { OnOk result ((out : List (Output M)) × (outputs.new.items ≡ outputs.old.items ++ out)
-        × (LeavesWhole M.application M.codec sender.start message out ⊎ LeavesInParts M.application M.codec sender.start message out)) }
-    ensures going { OnOk result ((o : Going) → Contains going.new.items o
-        → Contains going.old.items o ⊎ IsBegun M.application M.codec sender.start (message ∷ []) o) }
+        × (LeavesWhole M.application M.codec sender.start message out ⊎ IsPreparing M.application M.codec sender.start message out)) }
+    ensures preparing { OnOk result ((m : Prepared M) → Contains preparing.new.items m
+        → Contains preparing.old.items m ⊎ Contains (message ∷ []) m) }
 {
-    match outgoing(alloc, sender, &message)? {
-        Some(one) => begin(alloc, sender.start, sender.most, one, going, outputs),
-        None => send(alloc, sender.start, SentMessage::new(message), outputs),
+    let leaving = begin_leaving(alloc, sender, message)?;
+    match leaving {
+        Leaving::Whole(message) => send(alloc, sender.start, SentMessage::new(message), outputs),
+        Leaving::InParts(one) => prepare(one, preparing),
     }
 }
 
-/// Messages leave in packets, or begin to go out in parts.
+/// Messages leave in packets, or their snapshots are to be encoded first.
 pub fn send_all<M: Machine>(
     alloc: Global,
     sender: Sender,
     messages: Vec<PackedMessage<M>>,
-    going: &mut Vec<Outgoing>,
+    preparing: &mut Vec<Preparing<M>>,
     outputs: &mut Vec<Output<M>>,
 ) -> Result<(), AllocError>
     ensures { OnOk result ((frames : List (Output M))
-        × Sends M.application M.codec sender.start messages.items going.old.items frames going.new.items
+        × SendsAll M.application M.codec sender.start messages.items preparing.old.items frames preparing.new.items
         × (outputs.new.items ≡ outputs.old.items ++ frames)) }
 {
     for message in messages {
-        send_one(alloc, sender, message, going, outputs)?;
+        send_one(alloc, sender, message, preparing, outputs)?;
     }
     Ok(())
 }

@@ -104,10 +104,10 @@ delivered (core.Send to bytes ∷ os) old new before after requests reads h e =
     let same : h.0.intake ≡ old.intake = ap (λ (s : Service). s.intake) h.2.0 in
     through requests reads old.intake h.0.intake new.intake (ap (λ (i : Intake). i.core) same)
     (delivered os h.0 new h.1 after requests reads h.3 (passed (core.Send to bytes) os requests reads old.intake h.0.intake refl refl same e))
-delivered (core.Append bytes end ∷ os) old new before after requests reads h e =
+delivered (core.Append bytes end next ∷ os) old new before after requests reads h e =
     let same : h.0.intake ≡ old.intake = ap (λ (s : Service). s.intake) h.2.0 in
     through requests reads old.intake h.0.intake new.intake (ap (λ (i : Intake). i.core) same)
-    (delivered os h.0 new h.1 after requests reads h.3 (passed (core.Append bytes end) os requests reads old.intake h.0.intake refl refl same e))
+    (delivered os h.0 new h.1 after requests reads h.3 (passed (core.Append bytes end next) os requests reads old.intake h.0.intake refl refl same e))
 delivered (core.Install entries ∷ os) old new before after requests reads h e =
     let same : h.0.intake ≡ old.intake = ap (λ (s : Service). s.intake) h.2.0.rest in
     through requests reads old.intake h.0.intake new.intake (ap (λ (i : Intake). i.core) same)

@@ -383,7 +383,7 @@ delivered : (out : List CoreOutput) (old new : Service) (before after : List Out
 delivered [] old new before after h order = subst (λ (s : Service). IsInOrder s.clients s.intake) (sym h.0) order
 delivered (core.Send to bytes ∷ os) old new before after h order =
     delivered os h.0 new h.1 after h.3 (subst (λ (s : Service). IsInOrder s.clients s.intake) (sym h.2.0) order)
-delivered (core.Append bytes end ∷ os) old new before after h order =
+delivered (core.Append bytes end next ∷ os) old new before after h order =
     delivered os h.0 new h.1 after h.3 (subst (λ (s : Service). IsInOrder s.clients s.intake) (sym h.2.0) order)
 delivered (core.Install entries ∷ os) old new before after h order =
     delivered os h.0 new h.1 after h.3 (subst (λ (s : Service). IsInOrder s.clients s.intake) (sym h.2.0.rest) order)

@@ -35,7 +35,7 @@ answer_keeps (Some q) a old new h = ap (λ (x : Executed). x.state) h.executor �
 delivered_state : (o : CoreOutput) (old new : Service) (before after : List Output) → Delivers o old before new after
     → state_of new ≡ moved (state_of old) o
 delivered_state (core.Send to bytes) old new before after h = ap state_of h.0
-delivered_state (core.Append bytes end) old new before after h = ap state_of h.0
+delivered_state (core.Append bytes end next) old new before after h = ap state_of h.0
 delivered_state (core.Install snapshot) old new before after h = ap (λ (x : Executed). x.state) h.0.becomes
 delivered_state (core.Execute entry) old new before after h = ap (λ (x : Executed). x.state) h.0.becomes
 delivered_state (core.Reply reply) old new before after h =
@@ -56,7 +56,7 @@ after es = state_after application.first es
 
 moved_after : (o : CoreOutput) (es fs : List Entry) → GoesOn o es fs → moved (after es) o ≡ after fs
 moved_after (core.Send to bytes) es fs h = ap after (sym h)
-moved_after (core.Append bytes end) es fs h = ap after (sym h)
+moved_after (core.Append bytes end next) es fs h = ap after (sym h)
 moved_after (core.Install snapshot) es fs h = ap (λ (p : Packed State). p.state) h
 moved_after (core.Execute entry) es fs h = sym (ap after h ∙ fold-append application.apply application.first es (entry ∷ []))
 moved_after (core.Reply reply) es fs h = ap after (sym h)

@@ -35,6 +35,16 @@ pub record BeginsLog (old : Service) (written : Option Written) (new : Service) 
   pub begins : core.MayBeginLog state old.id old.intake.core written new.intake.core
   pub rest : new ≡ with_core old new.intake.core
 
+-- it takes the old one's place, or none does; nothing else is done
+pub record TakesOver (old : Service) (end : Option ℕ) (new : Service) : Type 0 where
+  pub takes_over : core.TakesOverLog old.intake.core end new.intake.core
+  pub rest : new ≡ with_core old new.intake.core
+
+-- it is given up
+pub record GivesUp (old new : Service) : Type 0 where
+  pub gives_up : core.GivesUpLog old.intake.core new.intake.core
+  pub rest : new ≡ with_core old new.intake.core
+
 -- the clients that were answered are served
 pub record Finishes (old : Service) (before : List Output) (new : Service) (after : List Output) : Type 0 where
   pub answered : List ℕ

@@ -75,7 +75,7 @@ pub record Machine (after : Executed) (old new : Service) : Type 0 where
 -- question.
 abbrev pub Delivers : CoreOutput → Service → List Output → Service → List Output → Type 0
 Delivers (core.Send to bytes) old before new after = (new ≡ old) × (after ≡ before ++ outputs.Send to bytes ∷ [])
-Delivers (core.Append bytes end) old before new after = (new ≡ old) × (after ≡ before ++ outputs.Append bytes end ∷ [])
+Delivers (core.Append bytes end next) old before new after = (new ≡ old) × (after ≡ before ++ outputs.Append bytes end next ∷ [])
 Delivers (core.Install snapshot) old before new after = Machine (installed snapshot) old new × (after ≡ before)
 Delivers (core.Execute entry) old before new after = Machine (executed (executed_of old.executor) entry) old new × (after ≡ before)
 Delivers (core.Reply reply) old before new after = Replied TakesFirst reply old new × (after ≡ before)

@@ -37,7 +37,7 @@ state_after st es = fold application.apply st es
 -- what an output of the server makes of it: an entry is executed, and a snapshot's state is put in place
 abbrev pub moved : State → CoreOutput → State
 moved st (core.Send to bytes) = st
-moved st (core.Append bytes end) = st
+moved st (core.Append bytes end next) = st
 moved st (core.Install snapshot) = snapshot.state
 moved st (core.Execute entry) = state_after st (entry ∷ [])
 moved st (core.Reply reply) = st
@@ -49,7 +49,7 @@ state_of s = (executed_of s.executor).state
 -- What an output makes of the entries that were executed, from the first one on: one more is, or those of a snapshot are in their place.
 abbrev pub GoesOn : CoreOutput → List Entry → List Entry → Type 0
 GoesOn (core.Send to bytes) es fs = fs ≡ es
-GoesOn (core.Append bytes end) es fs = fs ≡ es
+GoesOn (core.Append bytes end next) es fs = fs ≡ es
 GoesOn (core.Install snapshot) es fs = snapshot ≡ packed application fs
 GoesOn (core.Execute entry) es fs = fs ≡ es ++ entry ∷ []
 GoesOn (core.Reply reply) es fs = fs ≡ es

@@ -9,13 +9,26 @@ use std::alloc::AllocError;
 #[derive(PartialEq, Eq, Debug, Drop)]
 pub enum Output {
     /// Send these bytes to a peer, as one frame of a stream.
-    Send { to: u64, bytes: Items<u8> },
-    /// Append these bytes to the log and sync them; then `flushed` is called with their end.
-    Append { bytes: Items<u8>, end: u64 },
+    Send {
+        to: u64,
+        bytes: Items<u8>,
+    },
+    /// Append these bytes to the log and sync them; then `flushed` is called with their end. If a new log is on its way, `next` are its
+    /// bytes, to be appended to its file.
+    Append {
+        bytes: Items<u8>,
+        end: u64,
+        next: Option<Items<u8>>,
+    },
     /// Send these bytes to a client.
-    ToClient { client: u64, bytes: Items<u8> },
+    ToClient {
+        client: u64,
+        bytes: Items<u8>,
+    },
     /// Close a client's connection once all that was to be sent to it is sent. It is disconnected already.
-    Close { client: u64 },
+    Close {
+        client: u64,
+    },
 }
 
 /// One more output.

@@ -6,7 +6,7 @@ ghost use Rattle.raft_core.specs.Calls.{Begins, IsRefusal, Moves, Receives, Rele
 ghost use Rattle.raft_executor.specs.Executor.{executed_of, installed, without_outcome};
 ghost use Rattle.raft_executor.specs.KeyValue.{application};
 ghost use Rattle.raft_machine.specs.Bytes.{state};
-ghost use Rattle.raft_service.specs.Calls.{BeginsLog, Calls, Feeds, Handles, Joins, Leaves, Opens, Stays, at_time, with_core};
+ghost use Rattle.raft_service.specs.Calls.{BeginsLog, Calls, Feeds, GivesUp, Handles, Joins, Leaves, Opens, Stays, TakesOver, at_time, with_core};
 ghost use Rattle.raft_service.specs.Delivering.{Answered, AnswersIf, Delivers, DeliversAll, Machine, Replied, answer_to, executed_answer};
 ghost use Rattle.raft_service.specs.Delivering.{last_answer, told};
 ghost use Rattle.raft_service.specs.Intake.{TakesFirst, TakesRead};
@@ -223,6 +223,20 @@ impl Service {
         self.intake.core.begin_log(&self.id)
     }
 
+    /// The new log takes the old one's place, and gives its end, as [`RaftCore::take_over`].
+    pub fn take_over(&mut self) -> Option<u64>
+        ensures { TakesOver self.old result self.new }
+    {
+        self.intake.core.take_over()
+    }
+
+    /// The new log can't be written, and is given up, as [`RaftCore::give_up_log`].
+    pub fn give_up_log(&mut self)
+        ensures { GivesUp self.old self.new }
+    {
+        self.intake.core.give_up_log();
+    }
+
     /// Does a little for which nothing waits, in less than a millisecond, as [`RaftCore::fold_some`]: to be called while nothing else is to be
     /// done. Answers whether more is left.
     pub fn idle(&mut self) -> Result<bool, CoreError>
@@ -374,8 +388,8 @@ impl Service {
     {
         match output {
             raft_core::Output::Send { to, bytes } => push(Output::Send { to, bytes }, outputs),
-            raft_core::Output::Append { bytes, end } => {
-                push(Output::Append { bytes, end }, outputs)
+            raft_core::Output::Append { bytes, end, next } => {
+                push(Output::Append { bytes, end, next }, outputs)
             }
             raft_core::Output::Install(snapshot) => {
                 self.install(snapshot);

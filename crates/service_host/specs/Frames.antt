@@ -1,11 +1,12 @@
 -- Outputs as bytes.
-use Rattle.std.specs.Prelude.{ℕ, length, List, [], ◌∷◌, ◌++◌, Bool, true, false}
+use Rattle.std.specs.Prelude.{ℕ, length, List, [], ◌∷◌, ◌++◌, Option, None, Some}
 use Rattle.std.specs.Int.{to_le_bytes, w32, w64}
 use Rattle.std.specs.List.{flat_map}
 use Rattle.raft_service.specs.declared.output.Output.{Output}
 use Rattle.raft_service.specs.declared.output.Output.TheVariants as outputs
 use Rattle.service_host.specs.declared.frames.OutputKind.{OutputKind}
-use Rattle.service_host.specs.declared.frames.OutputKind.TheVariants.{Send, Append, ToClient, Close, Taken, Status, Error, Opened, Replace, More}
+use Rattle.service_host.specs.declared.frames.OutputKind.TheVariants.{Send, Append, ToClient, Close, Taken, Status, Error, Opened, NewLog, More}
+use Rattle.service_host.specs.declared.frames.OutputKind.TheVariants.{AppendNext, TakenOver}
 
 abbrev pub code_of : OutputKind → ℕ
 code_of Send = 1
@@ -16,16 +17,23 @@ code_of Taken = 5
 code_of Status = 6
 code_of Error = 7
 code_of Opened = 8
-code_of Replace = 9
+code_of NewLog = 9
 code_of More = 10
+code_of AppendNext = 11
+code_of TakenOver = 12
 
 -- its kind, how many bytes its body has, a number, and the body; the lowest byte of a number first
 abbrev pub framed : OutputKind → ℕ → List ℕ → List ℕ
 framed kind number body = to_le_bytes w32 (code_of kind) ++ (to_le_bytes w32 (length body) ++ (to_le_bytes w64 number ++ body))
 
+-- bytes for the end of a new log, if one is on its way
+abbrev pub next_frame : Option (List ℕ) → List ℕ
+next_frame None = []
+next_frame (Some bytes) = framed AppendNext 0 bytes
+
 abbrev pub frame_of : Output → List ℕ
 frame_of (outputs.Send to bytes) = framed Send to bytes
-frame_of (outputs.Append bytes end) = framed Append end bytes
+frame_of (outputs.Append bytes end next) = framed Append end bytes ++ next_frame next
 frame_of (outputs.ToClient client bytes) = framed ToClient client bytes
 frame_of (outputs.Close client) = framed Close client []
 

@@ -5,7 +5,7 @@ use Rattle.raft_executor.specs.KeyValue.{application}
 use Rattle.raft_machine.specs.Bytes.{state}
 use Rattle.raft_node.specs.declared.act.Act.TheVariants as act
 use Rattle.raft_service.specs.raft_packed_server.declared.batch.Written.{Written}
-use Rattle.raft_service.specs.Calls.{BeginsLog, Calls, Feeds, Joins, Leaves, Opens, at_time, with_core}
+use Rattle.raft_service.specs.Calls.{BeginsLog, Calls, Feeds, GivesUp, Joins, Leaves, Opens, TakesOver, at_time, with_core}
 use Rattle.raft_service.specs.declared.output.Output as service_output
 use Rattle.raft_service.specs.declared.service.OpenedService.{OpenedService}
 use Rattle.raft_service.specs.declared.service.Service.{Service}
@@ -14,7 +14,7 @@ use Rattle.service_host.specs.declared.frames.OutputKind.TheVariants as kind
 use Rattle.service_host.specs.declared.host.Host.{Host}
 use Rattle.service_host.specs.declared.inputs.Input.{Input}
 use Rattle.service_host.specs.declared.inputs.Input.TheVariants.{BeginLog, Idle, Settings, Open, Peer, Tick, Connect, Client}
-use Rattle.service_host.specs.declared.inputs.Input.TheVariants.{Disconnect, Write, Flushed, Initialize, Members, Status}
+use Rattle.service_host.specs.declared.inputs.Input.TheVariants.{Disconnect, Write, Flushed, Initialize, Members, Status, TakeOver, GiveUpLog}
 use Rattle.service_host.specs.Frames.{framed, frames}
 use Rattle.service_host.specs.Inputs.{IsInput}
 
@@ -36,9 +36,14 @@ pub record Begun (old new : Service) (out : List ℕ) : Type 0 where
   pub quiet : out ≡ []
 
 -- a new log, if one is begun: where it ends, and its bytes
-abbrev pub replaced : Option Written → List ℕ
-replaced None = []
-replaced (Some w) = framed kind.Replace w.end w.bytes.items
+abbrev pub new_log : Option Written → List ℕ
+new_log None = []
+new_log (Some w) = framed kind.NewLog w.end w.bytes.items
+
+-- where it ends, if it takes the old one's place
+abbrev pub taken_over : Option ℕ → List ℕ
+taken_over None = []
+taken_over (Some end) = framed kind.TakenOver end []
 
 -- what an input does at a service that is open
 abbrev pub Does : Input → Service → Service → List ℕ → Type 0
@@ -50,7 +55,9 @@ Does (Connect client) old new out = Joins client old new × (out ≡ [])
 Does (Client client sent) old new out = Feeding client sent.now old new out
 Does (Disconnect client) old new out = Leaves client old new × (out ≡ [])
 Does Write old new out = Puts (Calls (Writes application state)) old new out
-Does BeginLog old new out = (written : Option Written) × BeginsLog old written new × (out ≡ replaced written)
+Does BeginLog old new out = (written : Option Written) × BeginsLog old written new × (out ≡ new_log written)
+Does TakeOver old new out = (end : Option ℕ) × TakesOver old end new × (out ≡ taken_over end)
+Does GiveUpLog old new out = GivesUp old new × (out ≡ [])
 Does (Flushed position) old new out = Puts (Calls (Releases application state position)) old new out
 Does Initialize old new out = Begun old new out
 Does (Members voters learners) old new out = (new ≡ old) × (out ≡ [])

@@ -2,7 +2,7 @@
 use Rattle.std.specs.Prelude.{ℕ, ◌≡◌, List}
 use Rattle.service_host.specs.declared.inputs.Input.{Input}
 use Rattle.service_host.specs.declared.inputs.Input.TheVariants.{BeginLog, Idle, Settings, Open, Peer, Tick, Connect, Client}
-use Rattle.service_host.specs.declared.inputs.Input.TheVariants.{Disconnect, Write, Flushed, Initialize, Members, Status}
+use Rattle.service_host.specs.declared.inputs.Input.TheVariants.{Disconnect, Write, Flushed, Initialize, Members, Status, TakeOver, GiveUpLog}
 
 -- what the input of a number is made of; the time and the members are read from the bytes
 abbrev pub IsInput : ℕ → ℕ → ℕ → List ℕ → Input → Type 0
@@ -20,3 +20,5 @@ IsInput number first second bytes (Members voters learners) = number ≡ 11
 IsInput number first second bytes Status = number ≡ 12
 IsInput number first second bytes BeginLog = number ≡ 13
 IsInput number first second bytes Idle = number ≡ 14
+IsInput number first second bytes TakeOver = number ≡ 15
+IsInput number first second bytes GiveUpLog = number ≡ 16

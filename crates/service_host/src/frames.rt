@@ -1,10 +1,11 @@
 //! Outputs as bytes.
 
 ghost use Rattle.std.specs.Prelude.{◌≡◌, ◌++◌, OnOk};
-ghost use Rattle.service_host.specs.Frames.{code_of, frame_of, framed, frames};
+ghost use Rattle.service_host.specs.Frames.{code_of, frame_of, framed, frames, next_frame};
+ghost use Rattle.service_host.specs.declared.frames.OutputKind.TheVariants.{Append};
 
 use raft_service::{Output, Role, Status};
-use raft_state::LogId;
+use raft_state::{Items, LogId};
 use std::alloc::{AllocError, Global};
 
 /// What an output is.
@@ -12,7 +13,7 @@ use std::alloc::{AllocError, Global};
 pub enum OutputKind {
     /// A frame for a peer, whose id is the number.
     Send,
-    /// Bytes for the log's end, which then is at the number.
+    /// Bytes for the log's end, which then is at the number. Right behind them those for a new log, if one is on its way: `AppendNext`.
     Append,
     /// Bytes for a client, which is the number.
     ToClient,
@@ -26,10 +27,14 @@ pub enum OutputKind {
     Error,
     /// The service is open: how many bytes of the log are kept.
     Opened,
-    /// The bytes of a new log, which take the old one's place; it ends at the number.
-    Replace,
+    /// The bytes of a new log, for a file of its own; it ends at the number.
+    NewLog,
     /// More is left to be done while nothing else is.
     More,
+    /// Bytes for the end of the new log that is on its way.
+    AppendNext,
+    /// The new log takes the old one's place; it ends at the number.
+    TakenOver,
 }
 
 impl OutputKind {
@@ -46,8 +51,10 @@ impl OutputKind {
             OutputKind::Status => 6,
             OutputKind::Error => 7,
             OutputKind::Opened => 8,
-            OutputKind::Replace => 9,
+            OutputKind::NewLog => 9,
             OutputKind::More => 10,
+            OutputKind::AppendNext => 11,
+            OutputKind::TakenOver => 12,
         }
     }
 }
@@ -72,15 +79,37 @@ pub(crate) fn write_output(
     Ok(())
 }
 
+/// Appends bytes for the end of a new log, if one is on its way.
+fn write_next(out: &mut Vec<u8>, next: &Option<Items<u8>>) -> Result<(), AllocError>
+    ensures { OnOk result (out.new.items ≡ out.old.items ++ next_frame next.now) }
+{
+    match next {
+        Some(next) => write_output(out, OutputKind::AppendNext, 0, next.as_slice()),
+        None => Ok(()),
+    }
+}
+
+/// Appends bytes for the log's end, and behind them those for a new log.
+fn write_append(
+    out: &mut Vec<u8>,
+    bytes: &Items<u8>,
+    end: u64,
+    next: &Option<Items<u8>>,
+) -> Result<(), AllocError>
+    ensures { OnOk result (out.new.items ≡ out.old.items ++ (framed Append end bytes.now ++ next_frame next.now)) }
+{
+    write_output(out, OutputKind::Append, end, bytes.as_slice())?;
+    write_next(out, next)?;
+    Ok(())
+}
+
 /// Appends what a service puts out.
 fn write_one(out: &mut Vec<u8>, output: &Output) -> Result<(), AllocError>
     ensures { OnOk result (out.new.items ≡ out.old.items ++ frame_of output.now) }
 {
     match output {
         Output::Send { to, bytes } => write_output(out, OutputKind::Send, *to, bytes.as_slice()),
-        Output::Append { bytes, end } => {
-            write_output(out, OutputKind::Append, *end, bytes.as_slice())
-        }
+        Output::Append { bytes, end, next } => write_append(out, bytes, *end, next),
         Output::ToClient { client, bytes } => {
             write_output(out, OutputKind::ToClient, *client, bytes.as_slice())
         }

@@ -2,7 +2,7 @@
 
 ghost use Rattle.std.specs.Prelude.{◌≡◌, ◌≤◌, ◌++◌, [], IfOk, OnOk, length, take, drop, min};
 ghost use Rattle.service_host.specs.Frames.{frames};
-ghost use Rattle.service_host.specs.Host.{Does, Feeding, replaced, unread};
+ghost use Rattle.service_host.specs.Host.{Does, Feeding, new_log, taken_over, unread};
 ghost use Rattle.service_host.specs.declared.inputs.Input.TheVariants.{Idle};
 
 use crate::error::HostError;
@@ -66,12 +66,23 @@ fn put(outputs: Vec<Output>, out: &mut Vec<u8>) -> Result<(), HostError>
 }
 
 /// Adds a new log, if one was begun.
-fn replace(written: Option<Written>, out: &mut Vec<u8>) -> Result<(), HostError>
+fn begin(written: Option<Written>, out: &mut Vec<u8>) -> Result<(), HostError>
     requires { out.old.items ≡ [] }
-    ensures { OnOk result (out.new.items ≡ replaced written) }
+    ensures { OnOk result (out.new.items ≡ new_log written) }
 {
-    if let Some(Written { bytes, end }) = written {
-        write_output(out, OutputKind::Replace, end, &bytes)?;
+    if let Some(written) = written {
+        write_output(out, OutputKind::NewLog, written.end, &written.bytes)?;
+    }
+    Ok(())
+}
+
+/// Adds where the new log ends, if it takes the old one's place.
+fn take_over(end: Option<u64>, out: &mut Vec<u8>) -> Result<(), HostError>
+    requires { out.old.items ≡ [] }
+    ensures { OnOk result (out.new.items ≡ taken_over end) }
+{
+    if let Some(end) = end {
+        write_output(out, OutputKind::TakenOver, end, &[])?;
     }
     Ok(())
 }
@@ -117,7 +128,12 @@ fn serve(
             now,
         } => put(service.tick(elapsed, random, now)?, out),
         Input::Write => put(service.write()?, out),
-        Input::BeginLog => replace(service.begin_log(), out),
+        Input::BeginLog => begin(service.begin_log(), out),
+        Input::TakeOver => take_over(service.take_over(), out),
+        Input::GiveUpLog => {
+            service.give_up_log();
+            Ok(())
+        }
         Input::Flushed(position) => put(service.flushed(position)?, out),
         Input::Idle => idle(service, out),
     }

@@ -33,8 +33,12 @@ pub enum Input<'a> {
     Disconnect(u64),
     /// The disk is free.
     Write,
-    /// The disk is free, and a new log may take the old one's place.
+    /// The disk is free, and a new log may begin.
     BeginLog,
+    /// The new log is on disk, and may take the old one's place.
+    TakeOver,
+    /// The new log can't be written.
+    GiveUpLog,
     /// The log is on disk up to this position.
     Flushed(u64),
     /// The server gets the first entry of a new cluster.
@@ -92,6 +96,8 @@ fn refusal_of(unread: Unread) -> HostError {
 /// | 12 | status | | | |
 /// | 13 | begin a log | | | |
 /// | 14 | idle | | | |
+/// | 15 | take over | | | |
+/// | 16 | give up a log | | | |
 pub fn input_of(
     alloc: Global,
     number: u32,
@@ -126,6 +132,8 @@ pub fn input_of(
         12 => Ok(Input::Status),
         13 => Ok(Input::BeginLog),
         14 => Ok(Input::Idle),
+        15 => Ok(Input::TakeOver),
+        16 => Ok(Input::GiveUpLog),
         _ => Err(HostError::BadInput),
     }
 }

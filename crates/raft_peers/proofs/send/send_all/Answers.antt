@@ -6,7 +6,7 @@ use Rattle.raft_peers.proofs.send.send_all.Goals as goal
 pub loop-message-init : goal.loop-message-init
 loop-message-init g c = (
   [],
-  sends_none g.M.Machine.application g.M.Machine.codec c.args.sender.start c.args.going.now.items,
+  sends_none g.M.Machine.application g.M.Machine.codec c.args.sender.start c.args.preparing.now.items,
   sym (append-nil c.args.outputs.now.items),
 )
 
@@ -15,7 +15,7 @@ loop-message-preserved g c =
     let before = c.loop-message.invariant in
     let one = c.in_ok-send_one.ensures.leaves in (
       before.0 ++ one.0,
-      sends_more g.M.Machine.application g.M.Machine.codec c.args.sender.start c.loop-message.yielded c.in-Some.message c.args.going.now.items
-          c.loop-message.going.items c.send_one.new.going.items before.0 one.0 before.1 one.2 c.in_ok-send_one.ensures.going,
+      sends_more g.M.Machine.application g.M.Machine.codec c.args.sender.start c.loop-message.yielded c.in-Some.message c.args.preparing.now.items
+          c.loop-message.preparing.items c.send_one.new.preparing.items before.0 one.0 before.1 one.2 c.in_ok-send_one.ensures.preparing,
       one.1 ∙ (ap (λ out. out ++ one.0) before.2 ∙ append_assoc c.args.outputs.now.items before.0 one.0),
     )

@@ -16,10 +16,11 @@ returns g c =
       requests = i.clients.requests;
       executed = i.executed;
       reads = i.clients.reads;
+      preparing = i.preparing.items;
       outgoing = i.outgoing.items;
       incoming = i.incoming.assembly;
     } in
     let begun = c.in-Ok.begun in
-    subst (λ (v : CoreView g.row.M.Denot). MayBeginLog codec c.args.log.now v begun c.note_begun-2.new.self) c.self.view_is
-    (subst (λ (v : CoreView g.row.M.Denot). MayBeginLog codec c.args.log.now old begun v) (sym c.note_begun-2.ensures)
+    subst (λ (v : CoreView g.row.M.Denot). MayBeginLog codec c.args.log.now v begun c.note_begun.new.self) c.self.view_is
+    (subst (λ (v : CoreView g.row.M.Denot). MayBeginLog codec c.args.log.now old begun v) (sym c.note_begun.ensures)
     (begins codec c.args.log.now old begun c.begin_log.new.self c.in-Ok.ensures.begins c.in-Ok.ensures.given))

@@ -18,6 +18,7 @@ returns g c =
       requests = i.clients.requests;
       executed = i.executed;
       reads = i.clients.reads;
+      preparing = i.preparing.items;
       outgoing = i.outgoing.items;
       incoming = i.incoming.assembly;
     } in
@@ -29,6 +30,7 @@ returns g c =
       requests = j.clients.requests;
       executed = j.executed;
       reads = j.clients.reads;
+      preparing = j.preparing.items;
       outgoing = j.outgoing.items;
       incoming = j.incoming.assembly;
     } in
@@ -38,12 +40,14 @@ returns g c =
       requests = c.leave.new.requests;
       executed = c.leave.new.executed;
       reads = c.leave.new.reads;
+      preparing = c.leave.new.preparing.items;
       outgoing = c.leave.new.going.items;
     }))
     (c.self.view_is ∙ c.in_ok-fold_if_long.ensures)
     (releases app codec c.args.position old view out c.flushed.new.self c.in_ok-said.said c.in_ok-leave.ensures.outputs.0
-    c.leave.new.requests c.leave.new.executed c.leave.new.reads c.keep_of.new.outgoing.items c.leave.new.going.items
+    c.leave.new.requests c.leave.new.executed c.leave.new.reads c.keep_prepared.new.preparing.items c.leave.new.preparing.items
+    c.keep_of.new.outgoing.items c.leave.new.going.items
     (c.self-2.view_is ∙ c.note_flushed.ensures) c.in_ok-said.ensures.flushes
     (λ none. untrue (c.in_ok-said.ensures.stopped.1 none)) c.in_ok-said.ensures.released c.in_ok-said.ensures.given
-    c.keep_of.ensures c.in_ok-leave.ensures.outputs.1
+    c.keep_prepared.ensures c.keep_of.ensures c.in_ok-leave.ensures.outputs.1
     c.in_ok-leave.ensures.requests c.in_ok-leave.ensures.executed c.in_ok-leave.ensures.reads c.in_ok-leave.ensures.outputs.2)

@@ -14,6 +14,7 @@ returns g c =
       requests = i.clients.requests;
       executed = i.executed;
       reads = i.clients.reads;
+      preparing = i.preparing.items;
       outgoing = i.outgoing.items;
       incoming = i.incoming.assembly;
     } in

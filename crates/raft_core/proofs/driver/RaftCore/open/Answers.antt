@@ -22,6 +22,7 @@ returns g c =
       requests = c.new-2.ensures;
       executed = refl;
       reads = c.new-3.ensures;
-      outgoing = c.new-5.ensures.items;
-      incoming = c.new-6.ensures;
+      preparing = c.new-5.ensures.items;
+      outgoing = c.new-6.ensures.items;
+      incoming = c.new-7.ensures;
     }

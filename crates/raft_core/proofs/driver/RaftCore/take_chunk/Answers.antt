@@ -21,6 +21,7 @@ returns-in_default g c = λ x is reads.
       requests = i.clients.requests;
       executed = i.executed;
       reads = i.clients.reads;
+      preparing = i.preparing.items;
       outgoing = i.outgoing.items;
       incoming = i.incoming.assembly;
     } in
@@ -44,6 +45,7 @@ returns g c = λ x is reads.
       requests = i.clients.requests;
       executed = i.executed;
       reads = i.clients.reads;
+      preparing = i.preparing.items;
       outgoing = i.outgoing.items;
       incoming = i.incoming.assembly;
     } in

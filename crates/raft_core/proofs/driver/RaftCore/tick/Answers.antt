@@ -20,6 +20,7 @@ returns-clause-ticks g c =
       requests = left.requests;
       executed = i.executed;
       reads = left.reads;
+      preparing = i.preparing.items;
       outgoing = i.outgoing.items;
       incoming = i.incoming.assembly;
     } in

@@ -19,6 +19,7 @@ returns g c =
       requests = i.clients.requests;
       executed = i.executed;
       reads = i.clients.reads;
+      preparing = i.preparing.items;
       outgoing = i.outgoing.items;
       incoming = i.incoming.assembly;
     } in
@@ -32,6 +33,7 @@ returns g c =
       requests = j.clients.requests;
       executed = j.executed;
       reads = j.clients.reads;
+      preparing = j.preparing.items;
       outgoing = j.outgoing.items;
       incoming = j.incoming.assembly;
     } in
