@@ -21,17 +21,27 @@ pub(crate) struct Flush {
     pub bytes: Vec<u8>,
 }
 
+/// What came of bytes for a new log.
+pub(crate) struct Written {
+    /// The number of the new log.
+    pub log: u64,
+    /// How many parts of it are on disk.
+    pub count: io::Result<usize>,
+}
+
 /// All that waits.
 #[derive(Default)]
 pub(crate) struct Mail {
     pub arrivals: Arrivals,
     pub flush: Option<Flush>,
+    /// How many parts of a new log are on disk, and which log that is.
+    pub written: Option<Written>,
     pub requests: Vec<Request>,
 }
 
 impl Mail {
     fn is_empty(&self) -> bool {
-        self.arrivals.is_empty() && self.flush.is_none() && self.requests.is_empty()
+        self.arrivals.is_empty() && self.flush.is_none() && self.written.is_none() && self.requests.is_empty()
     }
 }
 
@@ -165,6 +175,11 @@ impl Inbox {
 
     pub(crate) fn flushed(&self, flush: Flush) {
         self.state().mail.flush = Some(flush);
+        self.0.is_there.notify_one();
+    }
+
+    pub(crate) fn written(&self, written: Written) {
+        self.state().mail.written = Some(written);
         self.0.is_there.notify_one();
     }
 

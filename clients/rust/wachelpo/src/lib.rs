@@ -37,7 +37,7 @@ mod status;
 
 pub use batch::{Arrival, Arrivals, Batch, Deliveries, Delivery};
 pub use clock::{Clock, SystemClock};
-pub use disk::{Disk, Folder, MemoryDisk, Presence, Segments};
+pub use disk::{Disk, Folder, MemoryDisk, NewLog, Presence, Segments};
 pub use error::{Error, FolderError};
 pub use inbox::Inbox;
 pub use metrics::Metrics;

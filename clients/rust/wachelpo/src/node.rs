@@ -2,16 +2,17 @@
 
 use crate::batch::{Arrival, Deliveries, Delivery};
 use crate::disk::Position;
-use crate::inbox::{Flush, Handler, Inbox, Mail};
+use crate::inbox::{Flush, Handler, Inbox, Mail, Written};
 use crate::metrics::Metrics;
 use crate::service::{Input, Output, Refusal, Service, MOMENT};
 use crate::settings::Builder;
 use crate::status::{Members, Role, Status};
-use crate::{ClientId, Clock, Disk, Error, Network, NodeId};
+use crate::{ClientId, Clock, Disk, Error, Network, NewLog, NodeId};
 use std::collections::BTreeMap;
+use std::io;
 use std::ops::ControlFlow;
 use std::sync::mpsc::{channel, sync_channel, Receiver, Sender, SyncSender};
-use std::sync::{Arc, Mutex, PoisonError};
+use std::sync::{Arc, Mutex, MutexGuard, PoisonError};
 use std::thread::{self, JoinHandle};
 use std::time::{Duration, Instant};
 
@@ -25,6 +26,8 @@ const PIECE: usize = 64 << 10;
 const KEPT: usize = 4 << 20;
 /// How often its status is noted for metrics.
 const NOTED: Duration = Duration::from_millis(500);
+/// Of how many parts of a new log the log itself waits that they are on disk.
+const NEAR: usize = 2;
 
 /// What a node is asked for by its handle.
 pub(crate) enum Request {
@@ -143,6 +146,8 @@ impl Node {
                 disk,
                 writes,
                 next: None,
+                beside: None,
+                begun: 0,
                 metrics,
                 random,
                 is_flushing: false,
@@ -232,27 +237,31 @@ impl Handle {
     }
 }
 
-/// What bytes do to the log.
-#[derive(Clone, Copy, PartialEq, Eq)]
+/// What is done to the log.
 enum Change {
-    Append,
-    Replace,
+    Append(Vec<u8>),
+    TakeOver,
 }
 
-/// Bytes for the log.
+/// A change of the log.
 struct Write {
     change: Change,
-    bytes: Vec<u8>,
     /// Where the log ends then.
     end: u64,
 }
 
-fn write(disk: &Mutex<Box<dyn Disk>>, Write { change, bytes, end }: Write) -> Flush {
+type SharedDisk = Mutex<Box<dyn Disk>>;
+
+fn lock(disk: &SharedDisk) -> MutexGuard<'_, Box<dyn Disk>> {
+    disk.lock().unwrap_or_else(PoisonError::into_inner)
+}
+
+fn write(disk: &SharedDisk, Write { change, end }: Write) -> Flush {
     let began = Instant::now();
-    let mut disk = disk.lock().unwrap_or_else(PoisonError::into_inner);
-    let result = match change {
-        Change::Append => disk.append(&bytes),
-        Change::Replace => disk.replace(&bytes),
+    let mut disk = lock(disk);
+    let (result, bytes) = match change {
+        Change::Append(bytes) => (disk.append(&bytes), bytes),
+        Change::TakeOver => (disk.take_over(), Vec::new()),
     };
     let generation = disk.generation();
     Flush {
@@ -264,11 +273,50 @@ fn write(disk: &Mutex<Box<dyn Disk>>, Write { change, bytes, end }: Write) -> Fl
 
 /// Writes to the log until nobody gives anything more, or until it fails: a log that has failed isn't tried again, since what is on
 /// disk isn't known then.
-fn write_all(disk: &Mutex<Box<dyn Disk>>, writes: &Receiver<Write>, inbox: &Inbox) {
+fn write_all(disk: &SharedDisk, writes: &Receiver<Write>, inbox: &Inbox) {
     while let Ok(next) = writes.recv() {
         let flush = write(disk, next);
         let has_failed = flush.result.is_err();
         inbox.flushed(flush);
+        if has_failed {
+            break;
+        }
+    }
+}
+
+/// A new log beside the old one, which a thread of its own writes.
+struct Beside {
+    /// Which one it is.
+    number: u64,
+    /// To its thread.
+    parts: Sender<Vec<u8>>,
+    /// How many parts went there, and how many of them are on disk.
+    sent: usize,
+    written: usize,
+}
+
+impl Beside {
+    /// Whether all but a little is on disk: the rest is waited for.
+    fn is_near(&self) -> bool {
+        self.written > 0 && self.sent - self.written <= NEAR
+    }
+}
+
+/// Writes the parts of a new log, as many at a time as there are, until nobody gives anything more, or until it fails.
+fn write_beside(mut log: Box<dyn NewLog>, number: u64, parts: &Receiver<Vec<u8>>, inbox: &Inbox) {
+    let mut count = 0;
+    while let Ok(mut bytes) = parts.recv() {
+        count += 1;
+        while let Ok(more) = parts.try_recv() {
+            count += 1;
+            bytes.extend_from_slice(&more);
+        }
+        let result = log.append(&bytes);
+        let has_failed = result.is_err();
+        inbox.written(Written {
+            log: number,
+            count: result.map(|()| count),
+        });
         if has_failed {
             break;
         }
@@ -287,11 +335,14 @@ struct Runner<N> {
     longest: Duration,
     noted: Instant,
     network: N,
-    disk: Arc<Mutex<Box<dyn Disk>>>,
+    disk: Arc<SharedDisk>,
     /// To the thread of the log.
     writes: Sender<Write>,
     /// What is to be written next.
     next: Option<Write>,
+    /// The new log, if one is on its way, and how many there were.
+    beside: Option<Beside>,
+    begun: u64,
     metrics: Arc<Metrics>,
     random: u64,
     /// Whether bytes are on their way to the disk.
@@ -311,6 +362,9 @@ struct Runner<N> {
 impl<N: Network> Runner<N> {
     /// Handles all that has come, then lets the service write, then delivers; and says whether that was all.
     fn take_turn(&mut self, mail: &mut Mail) -> Result<ControlFlow<()>, Error> {
+        if let Some(written) = mail.written.take() {
+            self.written(written)?;
+        }
         if let Some(flush) = mail.flush.take() {
             self.flushed(flush)?;
             if !mail.arrivals.is_empty() {
@@ -348,9 +402,12 @@ impl<N: Network> Runner<N> {
     }
 
     /// Lets the service write, unless bytes are on their way already. A few bytes this thread flushes itself, since that is sooner done
-    /// than said to another one; else what comes meanwhile is handled, as it is while a new log is written.
+    /// than said to another one; else what comes meanwhile is handled. A new log that has nearly all is waited for.
     fn write(&mut self) -> Result<(), Error> {
         while !self.is_flushing {
+            if self.beside.as_ref().is_some_and(Beside::is_near) && !self.take_over()? {
+                return self.let_out();
+            }
             self.let_out()?;
             let Some(next) = self.next_write()? else {
                 return self.let_out();
@@ -371,16 +428,81 @@ impl<N: Network> Runner<N> {
     /// serves sends it only once it is back.
     fn may_flush(&self, next: &Write) -> bool {
         let has_said = self.deliveries.iter().any(|(it, _)| !matches!(it, Delivery::Taken(..)));
-        next.change == Change::Append && next.bytes.len() < CALM && !has_said && self.inbox.is_empty()
+        let is_little = matches!(&next.change, Change::Append(bytes) if bytes.len() < CALM);
+        is_little && !has_said && self.inbox.is_empty()
     }
 
-    /// A new log, if the one that is there is long; or else what is to be appended.
+    /// What is to be done to the log next. If it is long, a new one is begun beside it.
     fn next_write(&mut self) -> Result<Option<Write>, Error> {
-        self.call(Input::BeginLog)?;
         if self.next.is_none() {
+            self.call(Input::BeginLog)?;
             self.call(Input::Write)?;
         }
         Ok(self.next.take())
+    }
+
+    /// Begins a new log with these bytes. One that can't be written is done without: the old log goes on.
+    fn begin(&mut self, bytes: Vec<u8>) -> Result<(), Error> {
+        self.begun += 1;
+        let (number, inbox) = (self.begun, self.inbox.clone());
+        let (parts, to_write) = channel();
+        let begun = lock(&self.disk).begin(bytes.len() as u64).and_then(|log| {
+            let work = move || write_beside(log, number, &to_write, &inbox);
+            thread::Builder::new().name("new log".into()).spawn(work)
+        });
+        if let Err(error) = begun {
+            return self.give_up(&error);
+        }
+        self.beside = Some(Beside {
+            number,
+            parts,
+            sent: 0,
+            written: 0,
+        });
+        self.append_next(bytes);
+        Ok(())
+    }
+
+    /// Bytes for the end of the new log.
+    fn append_next(&mut self, bytes: Vec<u8>) {
+        if let Some(beside) = &mut self.beside {
+            beside.sent += 1;
+            self.metrics.log_bytes.add(bytes.len() as u64);
+            // (if its thread has ended, it has said why)
+            let _ = beside.parts.send(bytes);
+        }
+    }
+
+    /// Parts of a new log are on disk, or can't be written.
+    fn written(&mut self, Written { log, count }: Written) -> Result<(), Error> {
+        let own = self.beside.as_mut().filter(|beside| beside.number == log);
+        match (own, count) {
+            (Some(beside), Ok(count)) => beside.written = count,
+            (Some(_), Err(error)) => self.give_up(&error)?,
+            (None, _) => {}
+        }
+        Ok(())
+    }
+
+    fn give_up(&mut self, error: &io::Error) -> Result<(), Error> {
+        log::error!("log: no new one can be written, so it grows: {error}");
+        self.beside = None;
+        lock(&self.disk).give_up();
+        self.call(Input::GiveUpLog)
+    }
+
+    /// Lets the new log take the old one's place, if all of it is on disk; says whether the log may be written.
+    fn take_over(&mut self) -> Result<bool, Error> {
+        if self.beside.as_ref().is_none_or(|beside| beside.sent > beside.written) {
+            return Ok(false);
+        }
+        self.beside = None;
+        self.call(Input::TakeOver)?;
+        if self.next.is_none() {
+            lock(&self.disk).give_up();
+            self.call(Input::GiveUpLog)?;
+        }
+        Ok(true)
     }
 
     /// What waits for nothing on disk leaves, as a commit: no bytes more are there.
@@ -550,7 +672,7 @@ impl<N: Network> Runner<N> {
 
     /// Calls the service, and takes what it puts out.
     fn take(&mut self, input: Input<'_>) -> Result<Came, Error> {
-        let (mut came, mut next) = (Came::default(), None);
+        let (mut came, mut beside) = (Came::default(), None);
         let outputs = match self.service.call(input)? {
             Ok(outputs) => outputs,
             Err(refusal) => {
@@ -566,19 +688,25 @@ impl<N: Network> Runner<N> {
                 Output::Taken(count) => came.taken = count,
                 Output::Status(status) => came.status = Some(status),
                 Output::More => came.is_more = true,
-                Output::Append { end, bytes } => next = Some((Change::Append, end, bytes)),
-                Output::Replace { end, bytes } => next = Some((Change::Replace, end, bytes)),
+                Output::Append { end, bytes } => {
+                    let mut copy = std::mem::take(&mut self.spare);
+                    copy.extend_from_slice(bytes);
+                    self.metrics.log_bytes.add(bytes.len() as u64);
+                    let change = Change::Append(copy);
+                    self.next = Some(Write { change, end });
+                }
+                Output::TakenOver(end) => {
+                    let change = Change::TakeOver;
+                    self.next = Some(Write { change, end });
+                }
+                Output::NewLog(bytes) => beside = Some((true, bytes.to_vec())),
+                Output::AppendNext(bytes) => beside = Some((false, bytes.to_vec())),
             }
         }
-        if let Some((change, end, bytes)) = next {
-            let mut copy = std::mem::take(&mut self.spare);
-            copy.extend_from_slice(bytes);
-            self.metrics.log_bytes.add(bytes.len() as u64);
-            self.next = Some(Write {
-                change,
-                bytes: copy,
-                end,
-            });
+        match beside {
+            Some((true, bytes)) => self.begin(bytes)?,
+            Some((false, bytes)) => self.append_next(bytes),
+            None => {}
         }
         Ok(came)
     }

@@ -16,7 +16,7 @@ extern "C" {
 }
 
 /// The version of the library that this is written for.
-const VERSION: u32 = 3;
+const VERSION: u32 = 4;
 /// A buffer above this size is given back after its call.
 const KEPT: usize = 4 << 20;
 
@@ -45,15 +45,31 @@ pub(crate) enum Input<'a> {
     Status,
     BeginLog,
     Idle,
+    TakeOver,
+    GiveUpLog,
 }
 
 /// What comes of it.
 #[derive(Debug)]
 pub(crate) enum Output<'a> {
-    Frame { to: NodeId, bytes: &'a [u8] },
-    Append { end: u64, bytes: &'a [u8] },
-    Replace { end: u64, bytes: &'a [u8] },
-    Client { client: ClientId, bytes: &'a [u8] },
+    Frame {
+        to: NodeId,
+        bytes: &'a [u8],
+    },
+    Append {
+        end: u64,
+        bytes: &'a [u8],
+    },
+    /// The first bytes of a new log, beside the old one.
+    NewLog(&'a [u8]),
+    /// Those of the [`Output::Append`] before it, for the new log.
+    AppendNext(&'a [u8]),
+    /// The new log has the old one's place, and ends there.
+    TakenOver(u64),
+    Client {
+        client: ClientId,
+        bytes: &'a [u8],
+    },
     Close(ClientId),
     Taken(usize),
     Status(Status),
@@ -84,8 +100,10 @@ mod kind {
     pub const TAKEN: u32 = 5;
     pub const STATUS: u32 = 6;
     pub const OPENED: u32 = 8;
-    pub const REPLACE: u32 = 9;
+    pub const NEW_LOG: u32 = 9;
     pub const MORE: u32 = 10;
+    pub const APPEND_NEXT: u32 = 11;
+    pub const TAKEN_OVER: u32 = 12;
 }
 
 mod code {
@@ -244,6 +262,8 @@ impl Service {
             Input::Status => self.exchange(12, 0, 0, &[]),
             Input::BeginLog => self.exchange(13, 0, 0, &[]),
             Input::Idle => self.exchange(14, 0, 0, &[]),
+            Input::TakeOver => self.exchange(15, 0, 0, &[]),
+            Input::GiveUpLog => self.exchange(16, 0, 0, &[]),
         };
         match code {
             0 => Ok(Ok(Outputs(&self.out[..self.count]))),
@@ -281,12 +301,9 @@ impl<'a> Iterator for Outputs<'a> {
                         bytes: body,
                     })
                 }
-                kind::REPLACE => {
-                    return Some(Output::Replace {
-                        end: number,
-                        bytes: body,
-                    })
-                }
+                kind::NEW_LOG => return Some(Output::NewLog(body)),
+                kind::APPEND_NEXT => return Some(Output::AppendNext(body)),
+                kind::TAKEN_OVER => return Some(Output::TakenOver(number)),
                 kind::CLIENT => return Some(Output::Client { client, bytes: body }),
                 kind::CLOSE => return Some(Output::Close(client)),
                 kind::TAKEN => return Some(Output::Taken(number as usize)),
@@ -508,18 +525,22 @@ mod tests {
     #[test]
     fn a_new_log_is_put_out_beside_others() {
         let mut bytes = Vec::new();
-        for (kind, number, body) in [(kind::REPLACE, 3, &b"new"[..]), (kind::APPEND, 5, b"er")] {
+        for (kind, number, body) in [
+            (kind::NEW_LOG, 3, &b"new"[..]),
+            (kind::APPEND, 5, b"er"),
+            (kind::APPEND_NEXT, 0, b"er"),
+            (kind::TAKEN_OVER, 5, b""),
+        ] {
             bytes.extend_from_slice(&u32::to_le_bytes(kind));
             bytes.extend_from_slice(&(body.len() as u32).to_le_bytes());
             bytes.extend_from_slice(&u64::to_le_bytes(number));
             bytes.extend_from_slice(body);
         }
         let mut outputs = Outputs(&bytes);
-        assert!(matches!(
-            outputs.next(),
-            Some(Output::Replace { end: 3, bytes: b"new" })
-        ));
+        assert!(matches!(outputs.next(), Some(Output::NewLog(b"new"))));
         assert!(matches!(outputs.next(), Some(Output::Append { end: 5, bytes: b"er" })));
+        assert!(matches!(outputs.next(), Some(Output::AppendNext(b"er"))));
+        assert!(matches!(outputs.next(), Some(Output::TakenOver(5))));
         assert!(outputs.next().is_none());
     }
 

@@ -2,14 +2,14 @@
 
 use std::collections::BTreeMap;
 use std::io;
-use std::sync::atomic::{AtomicU64, Ordering};
+use std::sync::atomic::{AtomicBool, AtomicU64, Ordering};
 use std::sync::mpsc::{channel, Receiver, Sender};
 use std::sync::{Arc, Mutex};
 use std::thread;
 use std::time::{Duration, Instant};
 use wachelpo::{
-    Arrival, Arrivals, ClientId, Clock, Deliveries, Delivery, Disk, Inbox, Members, MemoryDisk, Network, Node, NodeId,
-    Role, Running, SystemClock,
+    Arrival, Arrivals, ClientId, Clock, Deliveries, Delivery, Disk, Inbox, Members, MemoryDisk, Network, NewLog, Node,
+    NodeId, Role, Running, SystemClock,
 };
 
 const LONG: Duration = Duration::from_secs(30);
@@ -322,8 +322,16 @@ impl Disk for Gated {
         self.disk.append(bytes)
     }
 
-    fn replace(&mut self, bytes: &[u8]) -> io::Result<()> {
-        self.disk.replace(bytes)
+    fn begin(&mut self, count: u64) -> io::Result<Box<dyn NewLog>> {
+        self.disk.begin(count)
+    }
+
+    fn take_over(&mut self) -> io::Result<()> {
+        self.disk.take_over()
+    }
+
+    fn give_up(&mut self) {
+        self.disk.give_up();
     }
 
     fn generation(&self) -> u64 {
@@ -614,8 +622,16 @@ impl Disk for Failing {
         }
     }
 
-    fn replace(&mut self, bytes: &[u8]) -> io::Result<()> {
-        self.0.replace(bytes)
+    fn begin(&mut self, count: u64) -> io::Result<Box<dyn NewLog>> {
+        self.0.begin(count)
+    }
+
+    fn take_over(&mut self) -> io::Result<()> {
+        self.0.take_over()
+    }
+
+    fn give_up(&mut self) {
+        self.0.give_up();
     }
 
     fn generation(&self) -> u64 {
@@ -652,4 +668,137 @@ fn a_disk_that_fails_ends_the_node_before_anything_is_answered() {
     let error = running.wait().unwrap_err();
     assert_eq!(error.to_string(), "disk: the disk is broken");
     assert!(answers.try_recv().is_err());
+}
+
+/// A disk whose new logs are written once they are let, if there is room for them.
+#[derive(Clone, Default)]
+struct Slow {
+    disk: MemoryDisk,
+    gate: Arc<Mutex<()>>,
+    is_full: Arc<AtomicBool>,
+}
+
+struct SlowLog(Slow, Box<dyn NewLog>);
+
+impl NewLog for SlowLog {
+    fn append(&mut self, bytes: &[u8]) -> io::Result<()> {
+        let SlowLog(slow, log) = self;
+        let _open = slow.gate.lock().unwrap();
+        match slow.is_full.load(Ordering::Relaxed) {
+            true => Err(io::ErrorKind::StorageFull.into()),
+            false => log.append(bytes),
+        }
+    }
+}
+
+impl Disk for Slow {
+    fn read(&mut self) -> io::Result<Vec<u8>> {
+        self.disk.read()
+    }
+
+    fn cut(&mut self, end: u64) -> io::Result<()> {
+        self.disk.cut(end)
+    }
+
+    fn append(&mut self, bytes: &[u8]) -> io::Result<()> {
+        self.disk.append(bytes)
+    }
+
+    fn begin(&mut self, count: u64) -> io::Result<Box<dyn NewLog>> {
+        Ok(Box::new(SlowLog(self.clone(), self.disk.begin(count)?)))
+    }
+
+    fn take_over(&mut self) -> io::Result<()> {
+        self.disk.take_over()
+    }
+
+    fn give_up(&mut self) {
+        self.disk.give_up();
+    }
+
+    fn generation(&self) -> u64 {
+        self.disk.generation()
+    }
+}
+
+/// A lone node whose log is replaced after so many bytes.
+fn alone(disk: impl Disk + 'static, log_bytes: u64) -> Member {
+    let builder = Node::builder(NodeId(1)).member(NodeId(1), "").log_bytes(log_bytes);
+    let node = builder.open(disk).unwrap();
+    let (inbox, is_new) = (node.inbox(), node.is_new());
+    let (clients, answers) = channel();
+    let running = node
+        .start(Wire {
+            from: NodeId(1),
+            wires: Wires::default(),
+            clients,
+        })
+        .unwrap();
+    if is_new {
+        running.handle().initialize().unwrap();
+    }
+    let mut member = Member {
+        running,
+        inbox,
+        answers,
+        last_client: 0,
+    };
+    wait_for("it leads", || {
+        (member.ask("SET leads 1\r\n") == "+OK\r\n").then_some(())
+    });
+    member
+}
+
+impl Member {
+    /// Sets these keys to 500 bytes each.
+    fn fill(&mut self, keys: std::ops::Range<u32>) {
+        for key in keys {
+            assert_eq!(self.ask(&format!("SET {key} {key:0500}\r\n")), "+OK\r\n");
+        }
+    }
+
+    fn assert_filled(&mut self, keys: std::ops::Range<u32>) {
+        for key in keys {
+            assert_eq!(
+                self.ask_for(&format!("GET {key}\r\n"), 2),
+                format!("$500\r\n{key:0500}\r\n")
+            );
+        }
+    }
+}
+
+#[test]
+fn a_new_log_is_written_while_the_old_one_goes_on() {
+    let slow = Slow::default();
+    let closed = slow.gate.lock().unwrap();
+    let mut member = alone(slow.clone(), 10_000);
+    member.fill(0..100);
+    assert_eq!(slow.generation(), 0);
+    // a stop leaves the old log
+    let mut other = alone(MemoryDisk::of(slow.clone().read().unwrap()), 1 << 30);
+    other.assert_filled(0..100);
+    other.running.stop().unwrap();
+    drop(closed);
+    wait_for("the new log has its place", || (slow.generation() > 0).then_some(()));
+    member.fill(100..120);
+    member.running.stop().unwrap();
+    let mut member = alone(slow.clone(), 1 << 30);
+    member.assert_filled(0..120);
+    member.running.stop().unwrap();
+}
+
+#[test]
+fn a_new_log_without_room_is_given_up_and_begun_again() {
+    let slow = Slow::default();
+    slow.is_full.store(true, Ordering::Relaxed);
+    let mut member = alone(slow.clone(), 10_000);
+    member.fill(0..100);
+    assert_eq!(slow.generation(), 0);
+    slow.is_full.store(false, Ordering::Relaxed);
+    member.fill(0..400);
+    wait_for("the new log has its place", || (slow.generation() > 0).then_some(()));
+    member.running.stop().unwrap();
+    let mut member = alone(slow.clone(), 1 << 30);
+    member.assert_filled(0..400);
+    member.running.stop().unwrap();
 }

@@ -284,7 +284,8 @@ mod tests {
         let mut log = second.log_for(0);
         log.read().unwrap();
         log.cut(0).unwrap();
-        log.replace(b"new").unwrap();
+        log.begin(3).unwrap().append(b"new").unwrap();
+        log.take_over().unwrap();
         drop((log, second));
         let third = Folder::open(path, NODE, "a").unwrap();
         assert!(third.log().read().unwrap().starts_with(b"new\0"));

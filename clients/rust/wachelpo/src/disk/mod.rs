@@ -1,5 +1,6 @@
 //! Where a node's log is.
 
+mod aside;
 mod blocks;
 mod folder;
 mod segments;
@@ -22,13 +23,26 @@ pub trait Disk: Send {
     /// error it isn't called again, since nobody knows what is on disk then.
     fn append(&mut self, bytes: &[u8]) -> io::Result<()>;
 
-    /// Begins a new log: these bytes are all of it once this returns, as surely as appended ones, and those of the old log are gone.
-    /// A crash before leaves one of the two, whole. After an error nothing is called again, as for [`Disk::append`].
-    fn replace(&mut self, bytes: &[u8]) -> io::Result<()>;
+    /// Begins a new log of about so many bytes beside this one, which goes on: nothing of it is read yet, and one that was begun before is
+    /// given up.
+    fn begin(&mut self, count: u64) -> io::Result<Box<dyn NewLog>>;
+
+    /// The new log has this one's place once this returns, with all that was appended to it, as surely as what is appended to this one, and
+    /// the old one is gone. A crash before leaves one of the two, whole. After an error nothing is called again, as for [`Disk::append`].
+    fn take_over(&mut self) -> io::Result<()>;
+
+    /// The new log is given up, if one was begun: this one goes on alone.
+    fn give_up(&mut self);
 
     /// How often the log was replaced, over all starts: of what [`Disk::read`] found, and of what was done since. Other nodes know by it
     /// a log that is shorter since it is a new one.
     fn generation(&self) -> u64;
+}
+
+/// A new log beside another one. It is written on a thread of its own.
+pub trait NewLog: Send {
+    /// Appends bytes, which are on disk once this returns. After an error it isn't called again.
+    fn append(&mut self, bytes: &[u8]) -> io::Result<()>;
 }
 
 /// How many bytes a position has.
@@ -77,12 +91,36 @@ pub struct MemoryDisk(Arc<Mutex<Memory>>);
 struct Memory {
     bytes: Vec<u8>,
     generation: u64,
+    /// The new log, if one is begun, and the number of those that were begun.
+    next: Option<Vec<u8>>,
+    begun: u64,
+}
+
+/// The new log of this number.
+struct NextMemory(MemoryDisk, u64);
+
+impl NewLog for NextMemory {
+    fn append(&mut self, bytes: &[u8]) -> io::Result<()> {
+        let NextMemory(disk, number) = self;
+        let mut memory = disk.memory();
+        if memory.begun == *number {
+            memory.next.get_or_insert_default().extend_from_slice(bytes);
+        }
+        Ok(())
+    }
 }
 
 impl MemoryDisk {
     /// An empty log.
     pub fn new() -> Self {
         MemoryDisk::default()
+    }
+
+    /// A log of these bytes.
+    pub fn of(bytes: Vec<u8>) -> Self {
+        let disk = MemoryDisk::new();
+        disk.memory().bytes = bytes;
+        disk
     }
 
     fn memory(&self) -> MutexGuard<'_, Memory> {
@@ -105,11 +143,25 @@ impl Disk for MemoryDisk {
         Ok(())
     }
 
-    fn replace(&mut self, bytes: &[u8]) -> io::Result<()> {
+    fn begin(&mut self, _count: u64) -> io::Result<Box<dyn NewLog>> {
         let mut memory = self.memory();
-        memory.bytes = bytes.to_vec();
+        memory.next = None;
+        memory.begun += 1;
+        Ok(Box::new(NextMemory(self.clone(), memory.begun)))
+    }
+
+    fn take_over(&mut self) -> io::Result<()> {
+        let mut memory = self.memory();
+        memory.bytes = memory.next.take().unwrap_or_default();
+        memory.begun += 1;
         memory.generation += 1;
         Ok(())
+    }
+
+    fn give_up(&mut self) {
+        let mut memory = self.memory();
+        memory.next = None;
+        memory.begun += 1;
     }
 
     fn generation(&self) -> u64 {
@@ -126,8 +178,15 @@ mod tests {
         let mut disk = MemoryDisk::new();
         disk.append(b"old").unwrap();
         let mut clone = disk.clone();
-        disk.replace(b"new").unwrap();
+        let mut given_up = disk.begin(3).unwrap();
+        let mut new = disk.begin(3).unwrap();
+        given_up.append(b"never").unwrap();
+        new.append(b"new").unwrap();
         clone.append(b"er").unwrap();
+        assert_eq!(disk.read().unwrap(), b"older");
+        disk.take_over().unwrap();
+        clone.append(b"er").unwrap();
+        new.append(b"never").unwrap();
         assert_eq!(
             (disk.read().unwrap(), disk.generation(), clone.generation()),
             (b"newer".to_vec(), 1, 1)

@@ -2,19 +2,20 @@
 //! changes no metadata, so that `fdatasync` writes the bytes alone. One file more is always ready, which is what is left once the disk
 //! is full.
 //!
-//! A new log is written aside, into the file that is ready, and takes the old one's place by the name that this gets: a start reads the
+//! A new log is written beside the old one, into a file that takes the old one's place by the name that it gets then: a start reads the
 //! files of the newest log, and removes all others.
 
+use crate::disk::aside::Aside;
 use crate::disk::blocks::{Blocks, BLOCK};
-use crate::disk::Disk;
+use crate::disk::{Disk, NewLog};
 use std::fs::{self, File, OpenOptions};
-use std::io::{self, Read, Seek, SeekFrom, Write};
+use std::io::{self, Read, Seek, SeekFrom};
 use std::os::fd::AsRawFd;
 use std::os::unix::fs::FileExt;
 use std::path::{Path, PathBuf};
 use std::sync::atomic::{AtomicUsize, Ordering};
 use std::sync::mpsc::{sync_channel, Receiver, SyncSender, TrySendError};
-use std::sync::Arc;
+use std::sync::{Arc, Mutex, PoisonError};
 use std::thread::{self, JoinHandle};
 use std::time::Duration;
 
@@ -23,6 +24,8 @@ const SEGMENT: u64 = 16 << 20;
 const SHORT_SEGMENT: u64 = 64 << 10;
 /// The name of a file that isn't whole yet. What a crash leaves of it is none of a log's.
 const ASIDE: &str = "log.new";
+/// The name of a new log's file before it has the old one's place.
+const NEXT: &str = "log.next";
 /// The name of a file that is there once the log had anything. A log that has nothing is then a lost one, and not a new node's.
 const BEGUN: &str = "begun";
 /// How many bytes are filled at a time.
@@ -43,7 +46,8 @@ const PAUSE: Duration = Duration::from_secs(1);
 /// log.cut(0)?;
 /// log.append(b"record")?;
 /// assert!(Segments::new(&folder).read()?.starts_with(b"record\0"));
-/// log.replace(b"another one")?;
+/// log.begin(11)?.append(b"another one")?;
+/// log.take_over()?;
 /// assert!(Segments::new(&folder).read()?.starts_with(b"another one\0"));
 /// # std::fs::remove_dir_all(&folder)?;
 /// # Ok::<(), std::io::Error>(())
@@ -60,6 +64,21 @@ pub struct Segments {
     is_begun: bool,
     open: Option<Segment>,
     ahead: Option<Ahead>,
+    /// The new log beside this one.
+    next: Option<Arc<Mutex<Aside>>>,
+}
+
+/// A new log in its file.
+struct NewSegments(Arc<Mutex<Aside>>);
+
+impl NewLog for NewSegments {
+    fn append(&mut self, bytes: &[u8]) -> io::Result<()> {
+        lock(&self.0).append(bytes)
+    }
+}
+
+fn lock(aside: &Mutex<Aside>) -> std::sync::MutexGuard<'_, Aside> {
+    aside.lock().unwrap_or_else(PoisonError::into_inner)
 }
 
 /// The thread that makes files ahead. It ends with this value, so that none is made in a folder that another log has meanwhile.
@@ -239,14 +258,20 @@ fn read_from_disk(path: &Path, into: &mut Vec<u8>) -> io::Result<()> {
     Ok(())
 }
 
-fn write_zeros(mut file: &File, count: u64, mut after_each: impl FnMut() -> io::Result<()>) -> io::Result<()> {
+/// Writes so many zeros from a byte on, a little at a time.
+pub(super) fn write_zeros(
+    file: &File,
+    mut from: u64,
+    count: u64,
+    mut after_each: impl FnMut() -> io::Result<()>,
+) -> io::Result<()> {
     let zeros = vec![0; CHUNK.min(count as usize)];
-    let mut left = count;
-    while left > 0 {
-        let count = left.min(zeros.len() as u64);
-        file.write_all(&zeros[..count as usize])?;
+    let end = from + count;
+    while from < end {
+        let count = (end - from).min(zeros.len() as u64);
+        file.write_all_at(&zeros[..count as usize], from)?;
         after_each()?;
-        left -= count;
+        from += count;
     }
     Ok(())
 }
@@ -257,7 +282,7 @@ fn fill(folder: &Path, name: &str, size: u64) -> io::Result<File> {
     let filled = (|| {
         let file = File::create(&new)?;
         // little at a time, so that the log's own writes needn't wait for all of it
-        write_zeros(&file, size, || file.sync_data())?;
+        write_zeros(&file, 0, size, || file.sync_data())?;
         file.sync_all()?;
         fs::rename(&new, folder.join(name))?;
         sync(folder)?;
@@ -341,6 +366,7 @@ impl Segments {
             is_begun: false,
             open: None,
             ahead: None,
+            next: None,
         }
     }
 
@@ -424,40 +450,18 @@ impl Segments {
         ready
     }
 
-    /// Takes a file for the new log out of the old one, which goes on without it: it has zeros alone. Only on a disk so full that none
-    /// is ready it is one without room behind so many bytes.
-    fn set_aside(&mut self, count: u64, after: &mut impl FnMut()) -> io::Result<(File, u64)> {
-        let aside = self.folder.join(ASIDE);
-        let taken = match self.last_ready() {
-            Ok(Ready { file, number, length }) => {
-                fs::rename(self.path(number), aside)?;
-                (file, length.max(count.next_multiple_of(self.size)))
-            }
-            Err(error) if is_full(&error) => (File::create(aside)?, count.next_multiple_of(BLOCK as u64)),
-            Err(error) => return Err(error),
-        };
-        after();
+    /// On a full disk a new log has the file that is ready, if that has room for it, and the old one goes on without it.
+    fn set_aside(&mut self, count: u64) -> io::Result<Aside> {
+        let Ready { file, number, length } = self.last_ready()?;
+        if length < count {
+            return Err(io::ErrorKind::StorageFull.into());
+        }
+        let next = self.folder.join(NEXT);
+        fs::rename(self.path(number), &next)?;
+        self.lengths.truncate(number);
         // else a crash might leave the new log's bytes behind the old one's end
         sync(&self.folder)?;
-        after();
-        Ok(taken)
-    }
-
-    /// Writes the new log into a file that has zeros, if it has anything, and gives that its name.
-    fn put_in_place(&self, file: &File, bytes: &[u8], length: u64, after: &mut impl FnMut()) -> io::Result<()> {
-        file.write_all_at(bytes, 0)?;
-        after();
-        let filled = file.metadata()?.len();
-        (&*file).seek(SeekFrom::Start(filled))?;
-        write_zeros(file, length.saturating_sub(filled), || Ok(()))?;
-        after();
-        file.sync_all()?;
-        after();
-        fs::rename(self.folder.join(ASIDE), path(&self.folder, self.generation + 1, 0))?;
-        after();
-        sync(&self.folder)?;
-        after();
-        Ok(())
+        Ok(Aside::of(&next, file, length, self.size))
     }
 
     /// Removes the files of other logs, and one that isn't whole.
@@ -468,24 +472,31 @@ impl Segments {
                 after();
             }
         }
-        match fs::remove_file(self.folder.join(ASIDE)) {
-            Err(error) if error.kind() != io::ErrorKind::NotFound => Err(error),
-            _ => Ok(()),
+        for name in [ASIDE, NEXT] {
+            match fs::remove_file(self.folder.join(name)) {
+                Err(error) if error.kind() != io::ErrorKind::NotFound => return Err(error),
+                _ => {}
+            }
         }
+        Ok(())
     }
 
-    /// [`Disk::replace`], which calls `after` behind each thing that it does to a file or the folder: a crash may come there.
-    fn replace_step_by_step(&mut self, bytes: &[u8], mut after: impl FnMut()) -> io::Result<()> {
-        let count = bytes.len() as u64;
-        let (file, length) = self.set_aside(count, &mut after)?;
-        if let Err(error) = self.put_in_place(&file, bytes, length, &mut after) {
-            // it would only take room
-            let _ = fs::remove_file(self.folder.join(ASIDE));
-            return Err(error);
-        }
+    /// [`Disk::take_over`], which calls `after` behind each thing that it does to a file or the folder: a crash may come there.
+    fn take_over_step_by_step(&mut self, mut after: impl FnMut()) -> io::Result<()> {
+        let next = self.next.take();
+        let next = next.ok_or_else(|| io::Error::other("no new log was begun"))?;
+        let mut aside = lock(&next);
+        // no file of the old log is made any more
+        self.ahead = None;
+        aside.end()?;
+        after();
+        aside.rename(&path(&self.folder, self.generation + 1, 0))?;
+        after();
+        sync(&self.folder)?;
+        after();
         self.generation += 1;
-        self.lengths = vec![length];
-        self.open = Some(self.segment(file, 0, length, count));
+        self.lengths = vec![aside.length];
+        self.open = Some(self.segment(aside.file.try_clone()?, 0, aside.length, aside.used));
         self.note_begun()?;
         self.remove_others(&mut after)?;
         // (if there is no thread for it now, there is one once it is needed)
@@ -554,8 +565,26 @@ impl Disk for Segments {
         Ok(())
     }
 
-    fn replace(&mut self, bytes: &[u8]) -> io::Result<()> {
-        self.replace_step_by_step(bytes, || {})
+    fn begin(&mut self, count: u64) -> io::Result<Box<dyn NewLog>> {
+        self.give_up();
+        let aside = match Aside::create(&self.folder.join(NEXT), count, self.size) {
+            Err(error) if is_full(&error) => self.set_aside(count)?,
+            made => made?,
+        };
+        let next = Arc::new(Mutex::new(aside));
+        self.next = Some(next.clone());
+        Ok(Box::new(NewSegments(next)))
+    }
+
+    fn take_over(&mut self) -> io::Result<()> {
+        self.take_over_step_by_step(|| {})
+    }
+
+    fn give_up(&mut self) {
+        if let Some(next) = self.next.take() {
+            // (it would only take room)
+            let _ = lock(&next).remove();
+        }
     }
 
     fn generation(&self) -> u64 {
@@ -700,9 +729,18 @@ mod tests {
                 let mut log = reopened_with(size, folder, all.len() as u64);
                 assert_eq!(log.generation(), 2 * generation as u64);
                 log.append(&vec![1; 2 * size as usize]).unwrap();
-                log.replace(&[2; 5]).unwrap();
+                replace(&mut log, &[&[2; 5]]);
                 all = vec![generation as u8 + 3; length as usize];
-                log.replace(&all).unwrap();
+                let given_up = log.begin(7).unwrap();
+                let mut new = log.begin(length).unwrap();
+                drop(given_up);
+                let (front, back) = all.split_at(all.len() / 2);
+                new.append(front).unwrap();
+                log.append(&vec![1; size as usize]).unwrap();
+                new.append(back).unwrap();
+                log.take_over().unwrap();
+                // what comes late is no part of it
+                new.append(&[1]).unwrap();
                 assert_found(folder, &all, "replaced");
                 for count in [1, size + 50] {
                     let bytes = vec![9; count as usize];
@@ -714,6 +752,15 @@ mod tests {
                 all.extend(vec![200; size as usize + 1]);
             }
         }
+    }
+
+    /// A log is replaced by one of these parts.
+    fn replace(log: &mut Segments, parts: &[&[u8]]) {
+        let mut new = log.begin(parts.concat().len() as u64).unwrap();
+        for part in parts {
+            new.append(part).unwrap();
+        }
+        log.take_over().unwrap();
     }
 
     fn copy(from: &Path, to: &str) -> Scratch {
@@ -731,13 +778,20 @@ mod tests {
         let label = folder.file_name().unwrap().to_string_lossy().into_owned();
         let mut states = Vec::new();
         let mut note = || states.push(copy(&folder, &format!("{label}-{}", states.len())));
-        log.replace_step_by_step(bytes, &mut note).unwrap();
+        let mut new = log.begin(bytes.len() as u64).unwrap();
+        note();
+        let (front, back) = bytes.split_at(bytes.len() / 3);
+        new.append(front).unwrap();
+        note();
+        new.append(back).unwrap();
+        note();
+        log.take_over_step_by_step(&mut note).unwrap();
         states
     }
 
-    /// How many things are done until a new log is written aside, and until it has its name, durably.
-    const WRITTEN: usize = 5;
-    const PLACED: usize = 7;
+    /// How many things are done until a new log is written beside the old one, and until it has its name, durably.
+    const WRITTEN: usize = 4;
+    const PLACED: usize = 6;
 
     #[test]
     fn a_crash_leaves_the_old_log_or_the_new_one_whole() {
@@ -764,6 +818,20 @@ mod tests {
     }
 
     #[test]
+    fn a_new_log_that_is_given_up_leaves_the_old_one() {
+        let scratch = Scratch::new("given-up");
+        let mut log = reopened(scratch.path(), 0);
+        log.append(&[7; 350]).unwrap();
+        let mut new = log.begin(30).unwrap();
+        new.append(&[8; 30]).unwrap();
+        log.give_up();
+        new.append(&[8; 30]).unwrap();
+        log.take_over().unwrap_err();
+        drop(log);
+        assert_goes_on(100, scratch.path(), &[7; 350], "given up");
+    }
+
+    #[test]
     fn what_a_crash_leaves_of_a_file_aside_is_none_of_the_log() {
         let scratch = Scratch::new("aside");
         let mut log = reopened(scratch.path(), 0);
@@ -772,6 +840,7 @@ mod tests {
         for (step, state) in (1..=WRITTEN).zip(&states) {
             for bytes in [&[][..], &[9; 10], &[8; 400]] {
                 fs::write(state.path().join(ASIDE), bytes).unwrap();
+                fs::write(state.path().join(NEXT), bytes).unwrap();
                 assert_found(state.path(), &[7; 350], &format!("step {step}"));
             }
             assert_goes_on(100, state.path(), &[7; 350], &format!("step {step}"));
@@ -834,19 +903,27 @@ mod tests {
     }
 
     #[test]
-    fn a_log_is_replaced_on_a_full_disk_if_the_new_one_has_room() {
-        for (new, length) in [(100, 4096), (4096, 4096), (5000, 8192)] {
+    fn on_a_full_disk_a_new_log_has_the_file_that_is_ready() {
+        for (new, has_room) in [(100, true), (4096, true), (5000, false)] {
             let scratch = Scratch::new(&format!("full-{new}"));
-            let mut log = reopened_with(16384, scratch.path(), 0);
-            log.append(&[7; 10_000]).unwrap();
-            log.ahead = Some(full());
-            let new = vec![8; new];
-            log.replace(&new).unwrap();
-            assert_eq!(log.lengths, [length]);
-            assert_found(scratch.path(), &new, "replaced");
+            let mut log = reopened_with(4096, scratch.path(), 0);
+            log.append(&[7; 4000]).unwrap();
+            assert_eq!(log.set_aside(new).is_ok(), has_room);
+            log.append(&[7; 96]).unwrap();
             drop(log);
-            assert_goes_on(16384, scratch.path(), &new, "appended");
+            assert_goes_on(4096, scratch.path(), &[7; 4096], "full");
         }
+    }
+
+    #[test]
+    fn on_a_disk_so_full_that_no_file_is_ready_there_is_no_new_log() {
+        let scratch = Scratch::new("fuller");
+        let mut log = reopened_with(16384, scratch.path(), 0);
+        log.append(&[7; 10_000]).unwrap();
+        log.ahead = Some(full());
+        log.set_aside(100).map(drop).unwrap_err();
+        drop(log);
+        assert_goes_on(16384, scratch.path(), &[7; 10_000], "full");
     }
 
     #[test]
@@ -858,7 +935,8 @@ mod tests {
         let taken = path(scratch.path(), 1, 0);
         fs::create_dir(&taken).unwrap();
         fs::write(taken.join("file"), "").unwrap();
-        log.replace(&[8; 30]).unwrap_err();
+        log.begin(30).unwrap().append(&[8; 30]).unwrap();
+        log.take_over().unwrap_err();
         drop(log);
         fs::remove_dir_all(taken).unwrap();
         assert_goes_on(100, scratch.path(), &[7; 350], "failed");
