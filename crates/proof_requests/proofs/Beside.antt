@@ -30,7 +30,7 @@ use Rattle.proof_requests.specs.Answered.{IsAnswered, IsTrue}
 use Rattle.proof_requests.specs.Clients.{AnswerFirst, AreBeside, AreOver, AreTwoRequests, Cores, Exchange, IsOpen, IsOver, WasTold, StaysByReading, StaysByStart, WasWritten, after_call, after_end, after_read, after_request, answered_with, no_cores, unanswered, with_one}
 use Rattle.proof_requests.specs.Frames.{IsSent, frames_of}
 use Rattle.proof_requests.specs.Laws.{IsOwnAction, Keeps}
-use Rattle.proof_requests.specs.Moving.{IsComing, IsGoing, IsMoving}
+use Rattle.proof_requests.specs.Moving.{HasLeft, IsComing, IsGoing, IsMoving}
 use Rattle.proof_requests.specs.Reading.{StartsBare}
 use Rattle.proof_requests.specs.ReadLaws.{IsReadAnswered, IsReadTrue, IsReader, KeepsReads}
 use Rattle.proof_requests.specs.Requests.{ArePlaced, Asked, IsCore, Placed, Rises, Wrote, server_after}
@@ -43,7 +43,7 @@ use Rattle.proof_requests.proofs.Others.{Concerns, bare_other, bare_start, conce
 use Rattle.proof_requests.proofs.Queues.{FirstAnswered, answered_once, end_was, ends_rise, more_still, none_own, one_other, one_own, open_or_ended, open_or_over, over_below, over_once, own_left, queues_rise, still_open, tells_of, tokens_first, unanswered_in, unanswered_once, was_open, was_or_one}
 use Rattle.proof_requests.proofs.Reading.{done_more}
 use Rattle.proof_requests.proofs.ReadsKept.{admits_read}
-use Rattle.proof_requests.proofs.MovedCalls.{each_core, moving_later, moving_same, with_core}
+use Rattle.proof_requests.proofs.MovedCalls.{each_core, moving_later, moving_same, stays, with_core}
 use Rattle.proof_requests.proofs.Sent.{still_sent}
 
 pub some_same : {A : Type 0} (a b : A) → ◌≡◌ {A = Option A} (Some a) (Some b) → a ≡ b
@@ -517,7 +517,7 @@ module _ {S : Type 0} (app : Application S) (codec : Codec S) (given : Given) (a
     frames = h.frames;
     moving = with_core (λ i v. IsMoving app codec (after_actions given actions (new_cluster given)).released.bag v) s.cores id new
         (moving_same app codec (after_actions given actions (new_cluster given)).released.bag old new
-        (record { outgoing = ap (λ (v : CoreView S). v.outgoing) admitted; incoming = ap (λ (v : CoreView S). v.incoming) admitted })
+        (stays old new _ admitted refl refl refl)
         (h.moving id old runs))
         h.moving;
   }
@@ -602,7 +602,7 @@ module _ {S : Type 0} (app : Application S) (codec : Codec S) (given : Given) (a
     frames = h.frames;
     moving = with_core (λ i v. IsMoving app codec (after_actions given actions (new_cluster given)).released.bag v) s.cores id new
         (moving_same app codec (after_actions given actions (new_cluster given)).released.bag old new
-        (record { outgoing = ap (λ (v : CoreView S). v.outgoing) admitted; incoming = ap (λ (v : CoreView S). v.incoming) admitted })
+        (stays old new _ admitted refl refl refl)
         (h.moving id old runs))
         h.moving;
   }
@@ -731,6 +731,8 @@ beside_reading {S} app codec given wf actions placed s h log k disk bytes o memb
     (reader_start given actions log.node c.survive 0 o.core begins.executed begins.reads (h.bare log.node)))
     (λ v e. subst (IsMoving app codec (after_actions given (actions ++ took) (new_cluster given)).released.bag) (some_same o.core v e)
     (record {
+      preparing = subst (AllByRecursion (HasLeft app codec (after_actions given (actions ++ took) (new_cluster given)).released.bag))
+          (sym begins.preparing) tt;
       going = subst (AllByRecursion (IsGoing app codec (after_actions given (actions ++ took) (new_cluster given)).released.bag)) (sym begins.outgoing) tt;
       coming = subst (IsComing app codec (after_actions given (actions ++ took) (new_cluster given)).released.bag) (sym begins.incoming) (inl refl);
     })))

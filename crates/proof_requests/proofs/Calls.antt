@@ -33,9 +33,9 @@ use Rattle.raft_core.specs.Calls.{AnswersAfter, Releases, TakesContent, Ticks, r
 use Rattle.raft_core.specs.raft_peers.Frames.{asked as ask_out}
 use Rattle.raft_core.specs.Laws.{replies_of}
 use Rattle.raft_core.specs.Outputs.{executed_outputs, install, lost_left, lost_replies, overdue_left, overdue_replies, reads_out, replies_out}
-use Rattle.raft_core.specs.raft_peers.Sends.{IsBegun, LeaveAll}
+use Rattle.raft_core.specs.raft_peers.Sends.{Sends}
 use Rattle.raft_core.specs.Outputs.{said_outputs, settled_all}
-use Rattle.raft_core.specs.raft_peers.Parts.{IsPartOf, Outgoing, outgoing_of}
+use Rattle.raft_core.specs.raft_peers.Parts.{IsPartOf, Outgoing}
 use Rattle.raft_core.specs.raft_reads.Reads.{ReadsView, failed_replies, read_replies, refused_left, refused_replies, with_heard, with_left}
 use Rattle.raft_core.specs.Outputs.{handed_after}
 use Rattle.raft_core.specs.Steps.{TakesSteps, act_of, step_taking, with_steps}
@@ -50,7 +50,7 @@ use Rattle.proof_snapshots.proofs.Agreed.{agreed as snapshots_agree}
 use Rattle.proof_requests.specs.Actions.{AreSteps, Initializes, carried, flushes, initialized, received, released, taking, ticked}
 use Rattle.proof_requests.specs.Answered.{AreAnswered}
 use Rattle.proof_requests.specs.Frames.{IsSent, frames_of}
-use Rattle.proof_requests.specs.Moving.{IsGoing, IsMoving}
+use Rattle.proof_requests.specs.Moving.{HasLeft, IsGoing, IsMoving}
 use Rattle.proof_requests.specs.Laws.{AdmitsOne, IsOwnAction, Keeps, OpensWithNone, ReceivesSent}
 use Rattle.proof_requests.specs.Requests.{AreOpen, ArePlaced, Asked, IsCore, IsWaiting, Placed, server_after}
 use Rattle.proof_requests.proofs.Closing.{Closed, closes_executed, closes_lost, closes_none, closes_overdue}
@@ -58,7 +58,8 @@ use Rattle.proof_requests.proofs.Kept.{NoProposal, flushes_no_proposal, flushes_
 use Rattle.proof_requests.proofs.Kept.{steps_no_proposal, steps_own}
 use Rattle.proof_requests.proofs.Lists.{none_in, pairs_append, rises_more}
 use Rattle.proof_requests.proofs.More.{after_both, may_both}
-use Rattle.proof_requests.proofs.Moved.{BringAlike, part_completes}
+use Rattle.proof_requests.proofs.Left.{bag_more}
+use Rattle.proof_requests.proofs.Moved.{BringAlike, all_left_on, part_completes}
 use Rattle.proof_requests.proofs.Packs.{acts_at, acts_packed, crash_packed, crash_stands, flushes_packed, moves_plain, said_all, said_first, stands_after}
 use Rattle.proof_requests.proofs.Sent.{AreSent, asks_sent, bag_said, granted_sent, no_read_frames, no_told_frames, none_sent}
 use Rattle.proof_requests.proofs.Sent.{part_answered, part_sent, said_sent, sent_before, still_sent, taken_sent, went_sent}
@@ -97,9 +98,9 @@ moves_no at (m ∷ ms) = (move_no m, moves_no at ms)
 
 -- messages and snapshots are no replies
 module _ {S : Type 0} where
-  none_framed : (app : Application S) (c : Codec S) (start : ℕ) (ms : List (PackedMessage S)) (out : List (Output S)) → LeaveAll app c start ms out
-      → replies_of out ≡ []
-  none_framed app c start ms out h = none_replied out (messages_send app c start ms out h)
+  none_framed : (app : Application S) (c : Codec S) (start : ℕ) (old new : List (PackedMessage S)) (going going' : List Outgoing)
+      (ms : List (PackedMessage S)) (out : List (Output S)) → Sends app c start ms old going out new going' → replies_of out ≡ []
+  none_framed app c start old new going going' ms out h = none_replied out (messages_send app c start old new going going' ms out h)
 
   none_installed : (xs : List (PackedInstalled S)) → replies_of (map install xs) ≡ []
   none_installed [] = refl
@@ -329,7 +330,7 @@ module _ {S : Type 0} (app : Application S) (c : Codec S) (given : Given) (wf : 
     said =
         replies_more r.frames (map install r.said.installed ++ executed_outputs es old.requests.proposed)
         ∙ (ap (λ rs. rs ++ replies_of (map install r.said.installed ++ executed_outputs es old.requests.proposed))
-        (none_framed app c old.start r.said.bag r.frames r.sends.leave)
+        (none_framed app c old.start old.preparing new.preparing old.outgoing new.outgoing r.said.bag r.frames r.sends)
         ∙ (replies_more (map install r.said.installed) (executed_outputs es old.requests.proposed)
         ∙ ap (λ rs. rs ++ replies_of {S = S} (executed_outputs es old.requests.proposed)) (none_installed r.said.installed)))
 
@@ -346,22 +347,17 @@ module _ {S : Type 0} (app : Application S) (c : Codec S) (given : Given) (wf : 
     abbrev bag_now : List Message
     bag_now = (after_actions given (actions ++ flushed) (new_cluster given)).released.bag
 
-    -- what goes out in parts from now on has left a server
-    pub begun_going : (o : Outgoing) → IsBegun app c old.start r.said.bag o → IsGoing app c bag_now o
-    begun_going o b =
-        let among : Contains (map (packed_message app) theirs.bag) b.message =
-        subst (λ (s : PackedRecords S). Contains s.bag b.message) said_is b.among in
-        let m : (m : Message) × Contains theirs.bag m × (packed_message app m ≡ b.message) =
-        unmapped (packed_message app) theirs.bag b.message among in
-        record {
-          message = m.0;
-          left = bag_said given count actions id m.0 m.1;
-          fits = subst (λ (y : PackedMessage S). (kept c).fits y.brought) (sym m.2) b.fits;
-          is = b.is ∙ ap (outgoing_of c) (sym m.2);
-        }
+    -- what is encoded from now on has left a server
+    pub said_left : (p : PackedMessage S) → Contains r.said.bag p → HasLeft app c bag_now p
+    said_left p there =
+        let among : Contains (map (packed_message app) theirs.bag) p =
+        subst (λ (s : PackedRecords S). Contains s.bag p) said_is there in
+        let m : (m : Message) × Contains theirs.bag m × (packed_message app m ≡ p) =
+        unmapped (packed_message app) theirs.bag p among in
+        record { message = m.0; left = bag_said given count actions id m.0 m.1; is = sym m.2 }
 
-    pub releases : Kept (flushes id (released position old))
-    releases =
+    pub releases : IsMoving app c bag old → Kept (flushes id (released position old))
+    releases moving =
         keeps_same flushed (flushes_own id count) (may_flushed count (after_actions given actions (new_cluster given))) placed_now
         (closed_as (actions ++ flushed) (replies_of {S = S} (executed_outputs es old.requests.proposed)) (settled_all es old.requests) leave
         (ap (λ (v : CoreView S). v.requests) r.rest)
@@ -373,8 +369,9 @@ module _ {S : Type 0} (app : Application S) (c : Codec S) (given : Given) (wf : 
         (sym (ap (server_packed app) (all_flushed given count actions id) ∙ flushes_packed app count (server_after given actions id))) flush.1)
         (subst (λ (o : List (Output S)). AreSent app c bag_now (frames_of o)) (sym r.leaves)
         (sent_before app c bag_now (said_outputs r.frames r.said old.requests.proposed) (reads_out told_reads)
-        (said_sent app c bag_now old.start theirs.bag r.frames r.said.installed es old.requests.proposed
-        (subst (λ (s : PackedRecords S). LeaveAll app c old.start s.bag r.frames) said_is r.sends.leave)
+        (said_sent app c bag_now old.start theirs.bag old.preparing new.preparing old.outgoing new.outgoing r.frames r.said.installed es old.requests.proposed
+        (subst (λ (s : PackedRecords S). Sends app c old.start s.bag old.preparing old.outgoing r.frames new.preparing new.outgoing) said_is r.sends)
+        (all_left_on app c bag bag_now (λ m k. bag_more given actions flushed m k) old.preparing moving.preparing)
         (λ m k. bag_said given count actions id m k))
         (no_read_frames S told_reads)))
 

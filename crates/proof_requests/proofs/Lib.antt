@@ -32,7 +32,7 @@ pub mod Queues  -- what is open once the first have their answers
 pub mod MovedCalls  -- what each call does with parts
 pub mod Others  -- other servers are as they were
 pub mod Beside  -- and so do servers with their clients
-pub mod NewLogs  -- also if one begins a new log
+pub mod NewLogs  -- also as a new log begins, takes the old one's place, or is given up
 pub mod Histories  -- what clients asked and were told is a history
 pub mod Promises  -- the laws
 -- Worked rows

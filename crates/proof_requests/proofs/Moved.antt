@@ -13,15 +13,16 @@ use Rattle.raft_chunks.specs.Laws.{HasFront}
 use Rattle.raft_chunks.proofs.Runs.{TookPart, part_taken, same_titles}
 use Rattle.raft_codec.specs.declared.error.DecodeError.{DecodeError}
 use Rattle.raft_codec.specs.Codec.{Codec, IsCodec}
-use Rattle.proof_packed.specs.Nodes.{brought_by_body, packed_message}
+use Rattle.proof_packed.specs.Nodes.{PackedMessage, brought_by_body, packed_message}
 use Rattle.proof_packed.specs.Stores.{Application, Packed, packed}
 use Rattle.raft_core.specs.raft_packed_wire.declared.packet.SentPart.{SentPart}
 use Rattle.raft_core.specs.raft_packed_wire.Values.{kept}
 use Rattle.raft_core.proofs.raft_packed_wire_proofs.ValueLaws.{kept_is}
-use Rattle.raft_core.specs.raft_peers.Parts.{Comes, IsPartOf, Outgoing, assembled, handed_out}
+use Rattle.raft_core.specs.raft_peers.Parts.{Comes, IsPartOf, Outgoing, assembled, handed_out, outgoing_of}
+use Rattle.raft_core.specs.raft_peers.Sends.{IsBegun}
 use Rattle.raft_core.specs.Views.{CoreView}
 use Rattle.proof_snapshots.specs.Laws.{entries_in}
-use Rattle.proof_requests.specs.Moving.{IsComing, IsGoing, IsMoving}
+use Rattle.proof_requests.specs.Moving.{HasLeft, IsComing, IsGoing, IsMoving}
 
 module _ {S : Type 0} (app : Application S) (c : Codec S) where
   -- more messages have left
@@ -37,10 +38,35 @@ module _ {S : Type 0} (app : Application S) (c : Codec S) where
     coming_on a (inl none) = inl none
     coming_on a (inr h) = inr (record { outgoing = h.outgoing; going = going_on h.outgoing h.going; title = h.title; front = h.front })
 
+    pub left_on : (p : PackedMessage S) → HasLeft app c bag p → HasLeft app c more p
+    left_on p h = record { message = h.message; left = f h.message h.left; is = h.is }
+
+    pub all_left_on : (ps : List (PackedMessage S)) → AllByRecursion (HasLeft app c bag) ps → AllByRecursion (HasLeft app c more) ps
+    all_left_on [] h = tt
+    all_left_on (p ∷ ps) h = (left_on p h.0, all_left_on ps h.1)
+
     pub moving_on : (v : CoreView S) → IsMoving app c bag v → IsMoving app c more v
-    moving_on v h = record { going = all_going_on v.outgoing h.going; coming = coming_on v.incoming h.coming }
+    moving_on v h = record {
+      preparing = all_left_on v.preparing h.preparing;
+      going = all_going_on v.outgoing h.going;
+      coming = coming_on v.incoming h.coming;
+    }
 
   module _ (bag : List Message) where
+    -- what begins to go out has left a server
+    pub going_of : (p : PackedMessage S) → HasLeft app c bag p → (kept c).fits p.brought → IsGoing app c bag (outgoing_of c p)
+    going_of p h fits = record {
+      message = h.message;
+      left = h.left;
+      fits = subst (λ (q : PackedMessage S). (kept c).fits q.brought) h.is fits;
+      is = ap (outgoing_of c) h.is;
+    }
+
+    pub begun_going : (start : ℕ) (ps : List (PackedMessage S)) → ((p : PackedMessage S) → Contains ps p → HasLeft app c bag p) → (o : Outgoing)
+        → IsBegun app c start ps o → IsGoing app c bag o
+    begun_going start ps h o b =
+        subst (IsGoing app c bag) (sym b.is) (going_of b.message (h b.message b.among) b.fits)
+
     -- Messages that bring as many entries bring the same.
     abbrev pub BringAlike : Type 0
     BringAlike = (m n : Message) → Contains bag m → Contains bag n → length (entries_in m.body) ≡ length (entries_in n.body)

@@ -24,9 +24,9 @@ use Rattle.proof_requests.proofs.MovedCalls.{written_same}
 use Rattle.proof_requests.proofs.Beside.{beside_call, beside_first, beside_read, beside_reading, beside_request, beside_start, beside_stop}
 use Rattle.proof_requests.proofs.Beside.{first_answered}
 use Rattle.proof_requests.proofs.Beside.{first_read}
-use Rattle.proof_requests.proofs.Calls.{admits, begun_going, initializes, opens, receives, releases, ticks}
+use Rattle.proof_requests.proofs.Calls.{admits, initializes, opens, receives, releases, said_left, ticks}
 use Rattle.proof_requests.proofs.Histories.{ops_told}
-use Rattle.proof_requests.proofs.NewLogs.{beside_new_log}
+use Rattle.proof_requests.proofs.NewLogs.{beside_giving_up, beside_new_log, beside_take_over}
 use Rattle.proof_requests.proofs.ReadsKept.{reads_are_kept}
 use Rattle.proof_requests.proofs.Writes.{writes}
 
@@ -40,8 +40,8 @@ module _ {S : Type 0} (app : Application S) (c : Codec S) where
     receives = λ bytes given wf actions may placed placed_are id asked old new out core d.
         receives app c given wf actions may placed placed_are id asked old new out core inverse bytes d;
     writes = writes app c;
-    releases = λ position given wf actions may placed placed_are id asked old new out core d.
-        releases app c given wf actions may placed placed_are id asked old new out core position d;
+    releases = λ position given wf actions may placed placed_are id asked old new out core moving d.
+        releases app c given wf actions may placed placed_are id asked old new out core position d moving;
     admits = admits app;
     opens = opens app;
   }
@@ -98,11 +98,12 @@ module _ {S : Type 0} (app : Application S) (c : Codec S) where
   stays_by_release : StaysByRelease app c
   stays_by_release position given wf actions placed s h id old new out runs r =
       stay given actions placed s h id new out (flushes id (released position old))
-      (releases app c given wf actions h.may placed h.placed_are id (s.open_at id) old new out (h.running id old runs) position r)
+      (releases app c given wf actions h.may placed h.placed_are id (s.open_at id) old new out (h.running id old runs) position r
+      (h.moving id old runs))
       ((reads_are_kept app c).releases position given wf actions h.may placed id (s.open_at id) (s.reads_at id) old new out (h.running id old runs)
       (h.reading id old runs) r)
       (released_moving app c (after_actions given (actions ++ flushes id (released position old)) (new_cluster given)).released.bag position old new out r
-      (λ o b. begun_going app c given wf actions h.may placed h.placed_are id (s.open_at id) old new out (h.running id old runs) position r o b)
+      (λ p there. said_left app c given wf actions h.may placed h.placed_are id (s.open_at id) old new out (h.running id old runs) position r p there)
       (moving_later app c given actions (flushes id (released position old)) old (h.moving id old runs)))
 
   pub stay_beside : IsCodec c → StayBeside app c
@@ -122,8 +123,9 @@ module _ {S : Type 0} (app : Application S) (c : Codec S) where
     writes = stays_by (Writes app c) (λ old out new d. written app c old out new d) (requests_are_kept inverse).writes (reads_are_kept app c).writes
         (written_same app c);
     releases = stays_by_release;
-    new_logs = λ given actions placed s h id log old new w runs b.
-        beside_new_log app c given actions placed s h id log old new w runs b;
+    new_logs = λ log w given actions placed s h id old new runs b. beside_new_log app c given actions placed s h id old new runs log w b;
+    take_overs = λ end given actions placed s h id old new runs t. beside_take_over app c given actions placed s h id old new runs end t;
+    given_up = λ given actions placed s h id old new runs g. beside_giving_up app c given actions placed s h id old new runs g;
   }
 
   pub cores_see_one : {T R : Type 0} (m : Object T R) → CoresSeeOne app c m

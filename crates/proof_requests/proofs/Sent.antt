@@ -12,7 +12,7 @@ use Rattle.raft_store.specs.declared.entry.Entry.{Entry}
 use Rattle.raft_answers.specs.declared.answer.Reply.{Reply}
 use Rattle.raft_answers.specs.declared.request.Proposal.{Proposal}
 use Rattle.raft_answers.specs.Answers.{settled_left, settled_replies}
-use Rattle.proof_packed.specs.Nodes.{PackedInstalled, packed_message}
+use Rattle.proof_packed.specs.Nodes.{PackedInstalled, PackedMessage, packed_message}
 use Rattle.proof_packed.specs.Stores.{Application, Packed}
 use Rattle.raft_core.specs.raft_packed_wire.declared.packet.PackedContent.{PackedContent}
 use Rattle.raft_core.specs.raft_packed_wire.declared.packet.PackedContent.TheVariants as content
@@ -31,19 +31,20 @@ use Rattle.raft_core.specs.Calls.{appended}
 use Rattle.raft_core.specs.raft_peers.declared.frame.PartReply.{PartReply}
 use Rattle.raft_core.specs.raft_peers.Frames.{answered as part_answer, asked, granted}
 use Rattle.raft_core.specs.Outputs.{executed_outputs, install, reads_out, replies_out}
-use Rattle.raft_core.specs.raft_peers.Sends.{LeaveAll, LeavesInParts, LeavesWhole, packet_frame, packet_of}
+use Rattle.raft_core.specs.raft_peers.Sends.{IsPreparing, LeaveAll, LeavesWhole, Prepares, Sends, packet_frame, packet_of}
 use Rattle.raft_core.specs.raft_peers.Parts.{AreParts, IsPartOf, Outgoing, outgoing_of, part_frame, part_packet}
+use Rattle.raft_core.proofs.proof_packed_servers_proofs.Unpacking.{unmapped}
 use Rattle.proof_clients.proofs.Sequences.{each_of}
 use Rattle.proof_clients.proofs.Slots.{here, there}
 use Rattle.proof_deeds.proofs.Promised.{one_of}
 use Rattle.proof_servers.specs.Servers.{Action, Flushes, Server, WaitingStep, after_actions, new_cluster}
 use Rattle.proof_requests.specs.Actions.{flushes}
 use Rattle.proof_requests.specs.Frames.{IsPacket, IsPartPacket, IsSent, frames_of}
-use Rattle.proof_requests.specs.Moving.{IsGoing}
+use Rattle.proof_requests.specs.Moving.{HasLeft, IsGoing}
 use Rattle.proof_requests.specs.Requests.{server_after}
 use Rattle.proof_requests.proofs.Left.{bag_more, bag_oldest}
 use Rattle.proof_requests.proofs.Lists.{all_append, none_in}
-use Rattle.proof_requests.proofs.Moved.{going_on}
+use Rattle.proof_requests.proofs.Moved.{going_of, going_on}
 use Rattle.proof_requests.proofs.Packs.{said_all}
 use Rattle.proof_requests.proofs.Told.{server_flushed}
 
@@ -54,7 +55,7 @@ module _ {S : Type 0} where
   frames_more (outputs.Reply r ∷ a) b = frames_more a b
   frames_more (outputs.Read r ∷ a) b = frames_more a b
   frames_more (outputs.Send to bytes ∷ a) b = ap (λ fs. bytes ∷ fs) (frames_more a b)
-  frames_more (outputs.Append bytes end ∷ a) b = frames_more a b
+  frames_more (outputs.Append bytes end next ∷ a) b = frames_more a b
   frames_more (outputs.Install snapshot ∷ a) b = frames_more a b
   frames_more (outputs.Execute entry ∷ a) b = frames_more a b
 
@@ -140,15 +141,14 @@ module _ {S : Type 0} (app : Application S) (c : Codec S) where
     pub part_answered : (r : PartReply) (out : List (Output S)) → AreSent (frames_of out) → AreSent (frames_of (part_answer r ∷ out))
     part_answered r out h = (inr (inr (λ e. cc)), h)
 
-    -- a message that the model's steps say, whole or in parts
+    -- a message that the model's steps say, whole or not yet
     one_sent : (start : ℕ) (m : Message) (out : List (Output S)) → Contains bag m
-        → LeavesWhole app c start (packed_message app m) out ⊎ LeavesInParts app c start (packed_message app m) out → AreSent (frames_of out)
+        → LeavesWhole app c start (packed_message app m) out ⊎ IsPreparing app c start (packed_message app m) out → AreSent (frames_of out)
     one_sent start m out left (inl w) =
         let one : IsPacket app c bag (packet_frame c start w.packet) =
         record { start = start; packet = w.packet; message = m; left = left; brings = w.of_message; fits = w.fits; frame = refl } in
         subst (λ (o : List (Output S)). AreSent (frames_of o)) (sym w.leaves) (inl one, tt)
-    one_sent start m out left (inr p) =
-        parts_sent start (outgoing_of c (packed_message app m)) (record { message = m; left = left; fits = p.fits; is = refl }) out p.parts
+    one_sent start m out left (inr p) = none_sent out (ap frames_of p.leaves)
 
     messages_sent : (start : ℕ) (ms : List Message) (out : List (Output S)) → LeaveAll app c start (map (packed_message app) ms) out
         → ((m : Message) → Contains ms m → Contains bag m) → AreSent (frames_of out)
@@ -159,13 +159,38 @@ module _ {S : Type 0} (app : Application S) (c : Codec S) where
         (all_append (IsSent app c bag) (frames_of front) (frames_of rest) (one_sent start m front (f m (here m ms)) one)
         (messages_sent start ms rest others (λ x k. f x (there m ms x k)))))
 
-    pub said_sent : (start : ℕ) (ms : List Message) (frames : List (Output S)) (xs : List (PackedInstalled S)) (es : List Entry) (ps : List Proposal)
-        → LeaveAll app c start (map (packed_message app) ms) frames → ((m : Message) → Contains ms m → Contains bag m)
-        → AreSent (frames_of (frames ++ (map install xs ++ executed_outputs es ps)))
-    said_sent start ms frames xs es ps s f =
+    -- parts of a message whose snapshot is encoded, if any leave
+    prepared_sent : (start : ℕ) (old new : List (PackedMessage S)) (going going' : List Outgoing) (out : List (Output S))
+        → Prepares app c start old going out new going' → ((p : PackedMessage S) → Contains old p → HasLeft app c bag p) → AreSent (frames_of out)
+    prepared_sent start old new going going' out p h =
+        ⊎_elim (λ none. none_sent out (ap frames_of none))
+        (λ one. parts_sent start (outgoing_of c one.0) (going_of app c bag one.0 (h one.0 one.1) one.2.fits) out one.2.parts) p.leaves
+
+    said_left : (ms : List Message) → ((m : Message) → Contains ms m → Contains bag m) → (p : PackedMessage S)
+        → Contains (map (packed_message app) ms) p → HasLeft app c bag p
+    said_left ms f p there =
+        let m : (m : Message) × Contains ms m × (packed_message app m ≡ p) = unmapped (packed_message app) ms p there in
+        record { message = m.0; left = f m.0 m.1; is = sym m.2 }
+
+    -- messages, and behind them such parts
+    all_sent : (start : ℕ) (ms : List Message) (old new : List (PackedMessage S)) (going going' : List Outgoing) (out : List (Output S))
+        → Sends app c start (map (packed_message app) ms) old going out new going' → AllByRecursion (HasLeft app c bag) old
+        → ((m : Message) → Contains ms m → Contains bag m) → AreSent (frames_of out)
+    all_sent start ms old new going going' out s h f =
+        subst (λ (o : List (Output S)). AreSent (frames_of o)) (sym s.leaves)
+        (subst AreSent (sym (frames_more s.frames s.parts))
+        (all_append (IsSent app c bag) (frames_of s.frames) (frames_of s.parts) (messages_sent start ms s.frames s.sends.leave f)
+        (prepared_sent start s.waiting new going going' s.parts s.prepares
+        (λ p there. ⊎_elim (λ k. one_of (HasLeft app c bag) old p h k) (λ k. said_left ms f p k) (s.sends.preparing p there)))))
+
+    pub said_sent : (start : ℕ) (ms : List Message) (old new : List (PackedMessage S)) (going going' : List Outgoing) (frames : List (Output S))
+        (xs : List (PackedInstalled S)) (es : List Entry) (ps : List Proposal)
+        → Sends app c start (map (packed_message app) ms) old going frames new going' → AllByRecursion (HasLeft app c bag) old
+        → ((m : Message) → Contains ms m → Contains bag m) → AreSent (frames_of (frames ++ (map install xs ++ executed_outputs es ps)))
+    said_sent start ms old new going going' frames xs es ps s h f =
         let rest : frames_of (map install xs ++ executed_outputs es ps) ≡ [] =
         none_both (map install xs) (executed_outputs es ps) (none_installed xs) (none_executed S es ps) in
-        sent_before frames (map install xs ++ executed_outputs es ps) (messages_sent start ms frames s f) rest
+        sent_before frames (map install xs ++ executed_outputs es ps) (all_sent start ms old new going going' frames s h f) rest
 
   -- what was sent stays so
   pub sent_on : (bag more : List Message) → ((m : Message) → Contains bag m → Contains more m) → (bytes : List ℕ) → IsSent app c bag bytes

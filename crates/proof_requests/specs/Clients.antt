@@ -25,7 +25,7 @@ use Rattle.raft_core.specs.raft_packed_server.declared.batch.Written.{Written}
 use Rattle.raft_core.specs.raft_packed_server.Laws.{IsCut, OpensCrashed, cut_file}
 use Rattle.raft_core.specs.declared.driver.OpenedCore.{OpenedCore}
 use Rattle.raft_core.specs.raft_peers.declared.output.Output.{Output}
-use Rattle.raft_core.specs.Calls.{Admits, AdmitsRead, Begins, BeginsNewLog, Receives, Releases, Ticks, Writes}
+use Rattle.raft_core.specs.Calls.{Admits, AdmitsRead, Begins, BeginsNewLog, GivesUpLog, Receives, Releases, TakesOverLog, Ticks, Writes}
 use Rattle.raft_core.specs.Laws.{read_replies_of, replies_of}
 use Rattle.raft_core.specs.Views.{CoreView}
 use Rattle.proof_requests.specs.Actions.{AreSteps, Initializes, flushes, initialized, received, released, taking, ticked, written}
@@ -282,7 +282,7 @@ module _ {S : Type 0} (app : Application S) (c : Codec S) where
       → AreBeside app c given actions placed (after_read id token new (length actions) s)
 
   -- A start on what a crash left of the server's file, which is empty at first: the model's server crashes. What no start reads may differ
-  -- on disk, as it does once a new log has begun.
+  -- on disk, as it does once a new log has the old one's place.
   abbrev pub StaysByStart : Type 0
   StaysByStart =
       (given : Given) → IsWellFormed given → (actions : List Action) (placed : List Placed) (s : Cores S) → AreBeside app c given actions placed s
@@ -306,11 +306,11 @@ module _ {S : Type 0} (app : Application S) (c : Codec S) where
       → AreBeside app c given (actions ++ Crashes log.node opens.survive 0 ∷ []) placed
       (after_end log.node (Some o.core) (length actions + 1) s)
 
-  -- a server begins a new log: nothing leaves, and the model's server does nothing
-  abbrev pub StaysByNewLog : Type 0
-  StaysByNewLog =
+  -- a call that is about a server's log alone: nothing leaves, and the model's server does nothing
+  abbrev pub StaysByLog : (Does : CoreView S → CoreView S → Type 0) → Type 0
+  StaysByLog Does =
       (given : Given) (actions : List Action) (placed : List Placed) (s : Cores S) → AreBeside app c given actions placed s
-      → (id : ℕ) (log : LogName) (old new : CoreView S) (w : Written) → s.cores id ≡ Some old → BeginsNewLog c log old w new
+      → (id : ℕ) (old new : CoreView S) → s.cores id ≡ Some old → Does old new
       → AreBeside app c given actions placed (record s { cores = with_one id (Some new) s.cores })
 
   pub record StayBeside : Type 0 where
@@ -326,7 +326,9 @@ module _ {S : Type 0} (app : Application S) (c : Codec S) where
     pub receives : StaysByFrame
     pub writes : StaysBy (Writes app c) (λ old out new d. written app c old out new d)
     pub releases : StaysByRelease
-    pub new_logs : StaysByNewLog
+    pub new_logs : (log : LogName) (w : Written) → StaysByLog (λ old new. BeginsNewLog c log old w new)
+    pub take_overs : (end : Option ℕ) → StaysByLog (λ old new. TakesOverLog old end new)
+    pub given_up : StaysByLog (λ old new. GivesUpLog old new)
 
 -- names of requests that are over: no two have one
 abbrev pub AreNames : List Exchange → (Exchange → ℕ) → Type 0

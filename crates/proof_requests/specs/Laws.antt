@@ -57,12 +57,14 @@ module _ {S : Type 0} (app : Application S) (c : Codec S) where
       → (d : Does given actions old out new)
       → (steps : List Step) × AreSteps app steps (taken given actions old out new d) × Keeps given actions placed id asked out new (taking id steps)
 
-  -- records came on disk, up to this position: so many steps leave at the model's server too
+  -- Records came on disk, up to this position, at a server that encodes and moves only what has left a server: so many steps leave at the
+  -- model's server too.
   abbrev pub OfReleases : ℕ → Type 0
   OfReleases position =
       (given : Given) → IsWellFormed given → (actions : List Action) → AllMayAct given actions (new_cluster given)
       → (placed : List Placed) → ArePlaced given actions placed
       → (id : ℕ) (asked : List Asked) (old new : CoreView S) (out : List (Output S)) → IsCore app given actions placed id old asked
+      → IsMoving app c (after_actions given actions (new_cluster given)).released.bag old
       → Releases app c position old out new → Keeps given actions placed id asked out new (flushes id (released position old))
 
   -- the bytes of a frame are received that has left a server, as what has come of a snapshot has

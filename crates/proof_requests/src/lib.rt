@@ -16,7 +16,8 @@ pub use raft_core::raft_packed_server;
 /// leaves is true: `Ok` with the entry that the request waited for, by a flush of the model; `Failed` if nothing was proposed for
 /// it, or if a server has told of another entry at its index. `Unknown` promises nothing.
 ///
-/// This takes for granted what `servers_follow` does, and that a frame that is received has left a server, as what has come of a snapshot has.
+/// This takes for granted what `servers_follow` does, and that a frame that is received has left a server, as have the snapshots that are
+/// encoded, and those that go out and come in parts (`IsMoving`).
 pub fn requests_are_kept<M: Machine>()
     ensures { RequestsAreKept M.application M.codec }
 {}
@@ -30,9 +31,9 @@ pub fn reads_are_kept<M: Machine>()
 {}
 
 /// Servers and their clients stay beside the model, from no requests on, whatever calls are made at any of them. Frames come
-/// late, again, or never. A server begins a new log. It stops after an error, and starts on what a crash left of its file, cut at any
-/// byte behind what was synced; its requests get no answer then. Its file, old or new, makes the disk of the model's server, but for
-/// what no start reads.
+/// late, again, or never. A server begins a new log, which takes the old one's place, or is given up. It stops after an error, and
+/// starts on what a crash left of its file, cut at any byte behind what was synced; its requests get no answer then. Its file, old or
+/// new, makes the disk of the model's server, but for what no start reads.
 pub fn clients_stay_beside<M: Machine>()
     ensures { StayBeside M.application M.codec }
 {}
