@@ -12,6 +12,8 @@ use Rattle.raft_answers.specs.declared.request.Operation.{Operation}
 use Rattle.raft_answers.specs.declared.request.Operation.TheVariants.{Read}
 use Rattle.raft_answers.specs.declared.request.Proposal.{Proposal}
 use Rattle.raft_answers.specs.declared.request.Token.{Token}
+use Rattle.raft_frames.specs.declared.header.LogId.{LogId}
+use Rattle.raft_frames.specs.declared.tail.Tail.{Tail}
 use Rattle.raft_node.specs.declared.given.Given.{Given}
 use Rattle.raft_node.specs.Net.{Records}
 use Rattle.raft_node.specs.WellFormed.{IsWellFormed, has_twice, lacks_voters}
@@ -31,7 +33,9 @@ use Rattle.proof_requests.specs.proof_packed_servers.Servers.{waiting_packed}
 use Rattle.proof_requests.proofs.proof_packed_servers_proofs.Checkpoints.{go_on}
 use Rattle.proof_requests.proofs.proof_packed_servers_proofs.Clusters.{clusters_kept}
 use Rattle.proof_requests.proofs.proof_packed_servers_proofs.MayAct.{runs_may}
+use Rattle.proof_requests.specs.raft_packed_server.declared.serving.Serving.{Serving}
 use Rattle.proof_requests.specs.raft_packed_server.Laws.{OpensCrashed}
+use Rattle.proof_requests.specs.raft_packed_server.Recovery.{GoesOn}
 use Rattle.proof_requests.specs.raft_packed_server.Represents.{said_by}
 use Rattle.proof_requests.specs.raft_core.raft_peers.declared.output.Output.{Output}
 use Rattle.proof_requests.specs.raft_core.raft_peers.declared.output.Output.TheVariants as outputs
@@ -59,12 +63,13 @@ use Rattle.raft_cluster.specs.declared.network.Network.{Network}
 use Rattle.raft_cluster.specs.declared.network.Sent.{Sent}
 use Rattle.raft_cluster.specs.declared.told.Answered.{Answered}
 use Rattle.raft_cluster.specs.declared.told.Told.{Told}
-use Rattle.raft_cluster.specs.Calls.{ByCore, ByFlush, ByNewLog, ByRead, ByRequest, ByStart, ByWrite, Calls, Never, ReadsIf, RequestsIf, StartsIf, Stops, is_done, is_forged, is_opened, is_refused, with_handed}
+use Rattle.raft_cluster.specs.Calls.{ByCore, ByFlush, ByNewLog, ByRead, ByRequest, ByStart, ByTakeOver, ByWrite, Calls, GivesUp, Never, ReadsIf, RequestsIf, StartsIf, Stops, is_done, is_forged, is_opened, is_refused, with_handed}
 use Rattle.raft_cluster.specs.Clients.{AreClients, answers_told}
 use Rattle.raft_cluster.specs.Clusters.{AreNew, Carries, Follows, HasEntryAt, HasHanded, Holds, IsCluster, IsFrameAt, IsKept, IsNew, IsTold, KeepsAcknowledged, Leaves, Notes, answers_of, entries_told, frames_of, model_of, place_of, replies_told, sent_at, snapshots_told}
 use Rattle.raft_cluster.specs.Outputs.{AreQuiet, answer_in, answers_in, entry_in, executed_in, handed_in, installed_in, is_packet, others_in, snapshot_in}
 use Rattle.raft_cluster.specs.Servers.{IsServer, log_on}
 use Rattle.raft_cluster.proofs.Kept.{answers_kept, handed_on, handed_there, keeps, not_ok_kept, quiet_kept, received_kept, released_kept, said_kept}
+use Rattle.raft_cluster.proofs.Alike.{alike_at}
 use Rattle.raft_cluster.proofs.Clients.{clients_call, clients_end, clients_first, clients_read, clients_request, clients_still}
 use Rattle.raft_cluster.proofs.Cores.{idle, is_initialized, is_received, is_released, is_stopped, is_ticked, is_written, quiet_received, quiet_ticked, quiet_written, same_initialized, same_received, same_ticked, same_written}
 use Rattle.raft_cluster.proofs.Frames.{carries_more, carries_none, carries_quiet, carries_said}
@@ -73,7 +78,7 @@ use Rattle.raft_cluster.proofs.Machines.{reads}
 use Rattle.raft_cluster.proofs.Order.{order_initialized, order_received, order_released, order_ticked, order_written}
 use Rattle.raft_cluster.proofs.Recorded.{bag_more, executed_more, installed_more}
 use Rattle.raft_cluster.proofs.Seen.{keeps_writes}
-use Rattle.raft_cluster.proofs.Servers.{alike_at, made, opened, renewed}
+use Rattle.raft_cluster.proofs.Servers.{begun, given_up, made, opened, taken_over}
 
 or_false : (a : Bool) → (a || false) ≡ a
 or_false true = refl
@@ -232,7 +237,7 @@ module _ {S : Type 0} where
   answers_others (outputs.Reply r ∷ out) = ap (λ rs. r ∷ rs) (answers_others out)
   answers_others (outputs.Read r ∷ out) = ap (λ rs. r ∷ rs) (answers_others out)
   answers_others (outputs.Send to bytes ∷ out) = answers_others out
-  answers_others (outputs.Append bytes end ∷ out) = answers_others out
+  answers_others (outputs.Append bytes end next ∷ out) = answers_others out
   answers_others (outputs.Install p ∷ out) = answers_others out
   answers_others (outputs.Execute e ∷ out) = answers_others out
 
@@ -241,7 +246,7 @@ module _ {S : Type 0} where
   reads_others (outputs.Reply r ∷ out) = reads_others out
   reads_others (outputs.Read r ∷ out) = ap (λ rs. r ∷ rs) (reads_others out)
   reads_others (outputs.Send to bytes ∷ out) = reads_others out
-  reads_others (outputs.Append bytes end ∷ out) = reads_others out
+  reads_others (outputs.Append bytes end next ∷ out) = reads_others out
   reads_others (outputs.Install p ∷ out) = reads_others out
   reads_others (outputs.Execute e ∷ out) = reads_others out
 
@@ -250,7 +255,7 @@ module _ {S : Type 0} where
   frames_others (outputs.Reply r ∷ out) = frames_others out
   frames_others (outputs.Read r ∷ out) = frames_others out
   frames_others (outputs.Send to bytes ∷ out) = ap (λ fs. bytes ∷ fs) (frames_others out)
-  frames_others (outputs.Append bytes end ∷ out) = frames_others out
+  frames_others (outputs.Append bytes end next ∷ out) = frames_others out
   frames_others (outputs.Install p ∷ out) = frames_others out
   frames_others (outputs.Execute e ∷ out) = frames_others out
 
@@ -376,6 +381,15 @@ module _ {S : Type 0} (app : Application S) (codec : Codec S) where
         (subst (AreHanded (entries_told c.told)) (sym items)
         (set_any (HasHanded (entries_told c.told)) c.machines.items place n
         (subst (λ (o : Option (CoreView S)). IfSome o (λ v. IfSome v.executed (λ index. HasEntryAt index (entries_told c.told)))) (sym core) own_handed) h.handed)) h
+
+-- no new log is on its way at a server that was opened
+alone_by : {S : Type 0} (o : Option (Serving S)) (header : Option LogId) (place : Tail) → GoesOn o header place → (v : Serving S) → o ≡ Some v → v.next ≡ None
+alone_by None header place goes v is = absurd goes
+alone_by {S = S} (Some u) header place goes v is = ap (λ (x : Option (Serving S)). next_in x) (sym is) ∙ goes.alone
+  where
+    next_in : Option (Serving S) → Option Tail
+    next_in None = None
+    next_in (Some x) = x.next
 
 module _ {S : Type 0} (app : Application S) (codec : Codec S) (inverse : IsCodec codec) where
   -- a new cluster follows none
@@ -553,16 +567,36 @@ module _ {S : Type 0} (app : Application S) (codec : Codec S) (inverse : IsCodec
           (clients_read (length f.actions) f.cores c.told.asked.items (answers_told c.told) f.clients m.id token r.next (length c.told.answered.items)
           (sym (length-map c.told.answered.items (λ (x : Answered). (x.node, x.reply)))))))
 
-      -- the server begins a new log
-      pub renewed_follows : e.told.asked.items ≡ c.told.asked.items → (out : List (Output S)) → ByNewLog codec m out n → Follows app codec e
-      renewed_follows asked out b =
-          let s : Cores S = record f.cores { cores = with_one m.id (Some b.next) f.cores.cores } in
-          follows_now f.actions f.placed s
-          ((stay_beside app codec inverse).new_logs c.given f.actions f.placed f.cores f.beside m.id (log_on m) b.core b.next b.log (runs ∙ b.is_open) b.does)
-          (as_it_is (renewed app codec c.given own m stood out n b checkpoint_same))
-          (running (Some b.next) (sym b.now)) (quiet.frames ∙ f.frames)
+      -- a call that is about the server's log alone
+      logged : (next : CoreView S) → n.core ≡ Some next → e.told.asked.items ≡ c.told.asked.items
+          → AreBeside app codec c.given f.actions f.placed (record f.cores { cores = with_one m.id (Some next) f.cores.cores })
+          → IsServer app codec c.given own n → Follows app codec e
+      logged next now asked beside stands =
+          let s : Cores S = record f.cores { cores = with_one m.id (Some next) f.cores.cores } in
+          follows_now f.actions f.placed s beside (as_it_is stands) (running (Some next) (sym now)) (quiet.frames ∙ f.frames)
           (still_clients (length f.actions) s asked
-          (clients_still (length f.actions) f.cores c.told.asked.items (answers_told c.told) (with_one m.id (Some b.next) f.cores.cores) f.clients))
+          (clients_still (length f.actions) f.cores c.told.asked.items (answers_told c.told) (with_one m.id (Some next) f.cores.cores) f.clients))
+
+      -- the server begins a new log
+      pub begun_follows : e.told.asked.items ≡ c.told.asked.items → (out : List (Output S)) → ByNewLog codec m out n → Follows app codec e
+      begun_follows asked out b =
+          logged b.next (ap (λ (x : Machine S). x.core) b.becomes) asked
+          ((stay_beside app codec inverse).new_logs (log_on m) b.log c.given f.actions f.placed f.cores f.beside m.id b.core b.next (runs ∙ b.is_open) b.does)
+          (begun app codec c.given own m stood out n b checkpoint_same)
+
+      -- it takes the old one's place
+      pub over_follows : e.told.asked.items ≡ c.told.asked.items → (out : List (Output S)) → ByTakeOver m out n → Follows app codec e
+      over_follows asked out b =
+          logged b.next b.now asked
+          ((stay_beside app codec inverse).take_overs (Some b.end) c.given f.actions f.placed f.cores f.beside m.id b.core b.next (runs ∙ b.is_open) b.does)
+          (taken_over app codec c.given own m stood out n b)
+
+      -- or it is given up
+      pub given_up_follows : e.told.asked.items ≡ c.told.asked.items → (out : List (Output S)) → ByCore GivesUp m out n → Follows app codec e
+      given_up_follows asked out b =
+          logged b.next (ap (λ (x : Machine S). x.core) b.becomes) asked
+          ((stay_beside app codec inverse).given_up c.given f.actions f.placed f.cores f.beside m.id b.core b.next (runs ∙ b.is_open) b.does.1)
+          (subst (IsServer app codec c.given own) (sym b.becomes) (given_up app codec c.given own m stood b.core b.next b.is_open b.does.1))
 
       -- the server starts, on what a crash left of its disk
       pub started : e.told.asked.items ≡ c.told.asked.items → ByStart app codec c.given m n → Follows app codec e
@@ -579,7 +613,7 @@ module _ {S : Type 0} (app : Application S) (codec : Codec S) (inverse : IsCodec
           (subst (λ (x : ModelCluster). IsCluster app codec (cluster_packed app x) e) (sym (after_these took))
           (changed (with_server m.id t model) (λ x d. server_past m.id x t model d)
           (subst (λ y. IsServer app codec c.given y n) (sym (crash_packed app c.given f.given m.id is_member f.actions f.beside.may crash.survive 0) ∙ sym (ap (server_packed app) (server_in m.id t model)))
-          (opened app codec c.given own m stood o n start.was_closed crash start.begins.is_given start.begins.node start.id start.now start.written start.disk))
+          (opened app codec c.given own m stood o n start.was_closed crash (alone_by o.core.server.serving _ _ start.begins.opens.tail) start.begins.is_given start.begins.node start.id start.now start.written start.disk))
           still_sent still_told))
           (running (Some o.core) (sym start.now)) (quiet.frames ∙ f.frames)
           (still_clients (length (f.actions ++ took)) s asked
@@ -642,7 +676,7 @@ module _ {S : Type 0} (app : Application S) (codec : Codec S) (inverse : IsCodec
         let qs : List Reply = read_replies (handed_after r.said call.core.executed) (with_left r.said.answers call.core.reads) in
         let says : r.said ≡ said_by (map (waiting_packed app) ws) = has.says ∙ ap said_by (take-map (waiting_packed app) k (model.servers m.id).waiting) in
         let sent : frames_in out ≡ frames_in r.frames =
-        ap frames_in r.leaves ∙ frames_said app codec call.core.start r.said r.frames r.sends.leave ps qs in
+        ap frames_in r.leaves ∙ frames_said app codec call.core.start r.said r.frames call.core.preparing call.next.preparing call.core.outgoing call.next.outgoing r.sends ps qs in
         let bag : map (packed_message app) next.released.bag ≡ map (packed_message app) model.released.bag ++ r.said.bag =
         ap (λ (q : Records (List Entry)). map (packed_message app) q.bag) done.released ∙ bag_more app ws model.released r.said says in
         follows_now (f.actions ++ took) (f.placed ++ b.more) (after_call m.id out call.next (length (f.actions ++ took)) f.cores) b.beside
@@ -653,13 +687,15 @@ module _ {S : Type 0} (app : Application S) (codec : Codec S) (inverse : IsCodec
         (subst (Carries app codec (map (packed_message app) model.released.bag ++ r.said.bag))
         (sym (leaves.frames ∙ ap (λ fs. frames_of c.network ++ fs) sent))
         (carries_more app codec (map (packed_message app) model.released.bag) r.said.bag (frames_of c.network) (frames_in r.frames) f.is.sent
-        (carries_said app codec call.core.start r.said.bag r.frames r.sends.leave))))
+        (carries_said app codec call.core.start call.core.preparing call.next.preparing call.core.outgoing call.next.outgoing r.said.bag r.frames r.sends))))
         (subst (λ (q : Records (List Entry)). IsTold (packed_records app q) e.told) (sym done.released) (record {
           executed = leaves.executed
-              ∙ ((λ i. f.is.told.executed i ++ (ap executed_in r.leaves ∙ executed_said app codec call.core.start r.said r.frames r.sends.leave ps qs) i)
+              ∙ ((λ i. f.is.told.executed i ++ (ap executed_in r.leaves ∙ executed_said app codec call.core.start r.said r.frames
+              call.core.preparing call.next.preparing call.core.outgoing call.next.outgoing r.sends ps qs) i)
               ∙ executed_more app ws model.released r.said says);
           installed = leaves.installed
-              ∙ ((λ i. f.is.told.installed i ++ (ap installed_in r.leaves ∙ installed_said app codec call.core.start r.said r.frames r.sends.leave ps qs) i)
+              ∙ ((λ i. f.is.told.installed i ++ (ap installed_in r.leaves ∙ installed_said app codec call.core.start r.said r.frames
+              call.core.preparing call.next.preparing call.core.outgoing call.next.outgoing r.sends ps qs) i)
               ∙ installed_more app ws model.released r.said says);
         }))))
         (running (Some call.next) (sym call.now)) (sent_more out out call.next (length (f.actions ++ took)) refl leaves)
@@ -854,7 +890,8 @@ module _ {S : Type 0} (app : Application S) (codec : Codec S) (inverse : IsCodec
         next_executed b =
             let said = b.does.said in
             let reads : List Reply = read_replies (handed_after said b.core.executed) (with_left said.answers b.core.reads) in
-            let told : executed_in out ≡ map (λ x. x.entry) said.executed = ap executed_in b.does.leaves ∙ executed_said app codec b.core.start said b.does.frames b.does.sends.leave b.core.requests.proposed reads in
+            let told : executed_in out ≡ map (λ x. x.entry) said.executed = ap executed_in b.does.leaves ∙ executed_said app codec b.core.start said b.does.frames
+            b.core.preparing b.next.preparing b.core.outgoing b.next.outgoing b.does.sends b.core.requests.proposed reads in
             let before : IfSome b.core.executed (λ index. HasEntryAt index (entries_told c.told)) =
             subst (λ (o : Option (CoreView S)). IfSome o (λ v. IfSome v.executed (λ index. HasEntryAt index (entries_told c.told)))) b.is_open (own_handed app codec c id place m n found was h) in
             subst (λ (o : Option ℕ). IfSome o (λ index. HasEntryAt index es)) (sym (ap (λ (v : CoreView S). v.executed) b.does.rest))
@@ -871,7 +908,8 @@ module _ {S : Type 0} (app : Application S) (codec : Codec S) (inverse : IsCodec
             let reads : List Reply = read_replies (handed_after b.does.said b.core.executed) (with_left b.does.said.answers b.core.reads) in
             subst (λ xs. AllByRecursion (IsKept xs) (answers_in out)) (sym leaves.executed)
             (answers_kept (entries_told c.told) (executed_in out) out (order_released app codec b.core b.next out b.position b.does)
-            (said_kept app codec b.core.start b.core.requests.proposed b.does.said b.does.frames b.does.sends.leave reads out b.does.leaves)
+            (said_kept app codec b.core.start b.core.requests.proposed b.does.said b.does.frames b.core.preparing b.next.preparing b.core.outgoing
+            b.next.outgoing b.does.sends reads out b.does.leaves)
             (subst (λ xs. AllByRecursion (IsKept xs) (read_replies_of out)) leaves.executed (released_kept app codec es b.position b.core b.next out b.does (next_executed b))))
 
     -- nothing leaves
@@ -900,8 +938,24 @@ module _ {S : Type 0} (app : Application S) (codec : Codec S) (inverse : IsCodec
     pub checkpoint_holds : e.damaged ≡ c.damaged → e.network ≡ c.network → e.told ≡ c.told → Calls (ByNewLog codec) m [] n → Holds app codec e
     checkpoint_holds undamaged network told call =
         quiet_holds (ByNewLog codec) [] undamaged (λ b. tt) (λ b. tt)
+        (λ b. next_handed [] (none_more (ap entries_told told)) b.core b.next b.is_open (ap (λ (x : Machine S). x.core) b.becomes) (ap (λ (v : CoreView S). v.executed) b.does.rest))
+        (λ f leaves b. begun_follows c e id place m n found was same items same_id f (quiet_now network told) (ap (λ (t : Told S). t.asked.items) told) [] b) call
+        (subst (λ (x : Network). Leaves id [] c.network c.told x e.told) (sym network) (subst (λ (x : Told S). Leaves id [] c.network c.told c.network x) (sym told) (leaves_none id c.network c.told)))
+
+    -- it takes the old one's place
+    pub take_over_holds : e.damaged ≡ c.damaged → e.network ≡ c.network → e.told ≡ c.told → Calls ByTakeOver m [] n → Holds app codec e
+    take_over_holds undamaged network told call =
+        quiet_holds ByTakeOver [] undamaged (λ b. tt) (λ b. tt)
         (λ b. next_handed [] (none_more (ap entries_told told)) b.core b.next b.is_open b.now (ap (λ (v : CoreView S). v.executed) b.does.rest))
-        (λ f leaves b. renewed_follows c e id place m n found was same items same_id f (quiet_now network told) (ap (λ (t : Told S). t.asked.items) told) [] b) call
+        (λ f leaves b. over_follows c e id place m n found was same items same_id f (quiet_now network told) (ap (λ (t : Told S). t.asked.items) told) [] b) call
+        (subst (λ (x : Network). Leaves id [] c.network c.told x e.told) (sym network) (subst (λ (x : Told S). Leaves id [] c.network c.told c.network x) (sym told) (leaves_none id c.network c.told)))
+
+    -- or it is given up
+    pub give_up_holds : e.damaged ≡ c.damaged → e.network ≡ c.network → e.told ≡ c.told → Calls (ByCore GivesUp) m [] n → Holds app codec e
+    give_up_holds undamaged network told call =
+        quiet_holds (ByCore GivesUp) [] undamaged (λ b. tt) (λ b. tt)
+        (λ b. next_handed [] (none_more (ap entries_told told)) b.core b.next b.is_open (ap (λ (x : Machine S). x.core) b.becomes) (ap (λ (v : CoreView S). v.executed) b.does.1))
+        (λ f leaves b. given_up_follows c e id place m n found was same items same_id f (quiet_now network told) (ap (λ (t : Told S). t.asked.items) told) [] b) call
         (subst (λ (x : Network). Leaves id [] c.network c.told x e.told) (sym network) (subst (λ (x : Told S). Leaves id [] c.network c.told c.network x) (sym told) (leaves_none id c.network c.told)))
 
     -- or it stops while it does

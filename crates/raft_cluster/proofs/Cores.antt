@@ -242,7 +242,7 @@ module _ {S : Type 0} (app : Application S) (codec : Codec S) where
   pub is_released : (given : Given) (s : PackedServer S) (m : Machine S) (is : IsServer app codec given s m) (out : List (Output S)) (n : Machine S) (b : ByFlush app codec m out n) → Flushed app codec given s m is (released b.position b.core) b.does.said n
   is_released given s m is out n b =
       flushed_too app codec given s m is (released b.position b.core) b.does.said n
-      (told app codec given (record s { disk = is.disk }) m is.has b.core b.next b.position b.does.said n b.is_open b.end b.does.serves b.does.flushes b.does.released b.does.given (ap (λ (v : CoreView S). v.id) b.does.rest) b.id b.now b.written b.disk)
+      (told app codec given (record s { disk = is.disk }) m is.has b.core b.next b.position b.does.said n b.is_open b.end b.does.serves b.does.flushes b.does.released b.does.given (ap (λ (v : CoreView S). v.id) b.does.rest) b.id b.now b.written b.disk b.beside)
 
   -- the server stops
   pub is_stopped : (given : Given) (s : PackedServer S) (m : Machine S) → IsServer app codec given s m → (out : List (Output S)) (n : Machine S) → Stops m out n → IsServer app codec given s n

@@ -1,16 +1,17 @@
 -- The messages in frames that leave.
-use Rattle.std.proofs.Common.{ℕ, ◌≡◌, ◌∙◌, List, [], ◌∷◌, ◌++◌, Option, None, Some, refl, sym, ap, subst, inl, inr}
+use Rattle.std.proofs.Common.{ℕ, ◌≡◌, ◌∙◌, List, [], ◌∷◌, ◌++◌, Option, None, Some, refl, sym, ap, subst, inl, inr, ⊎_elim}
 use Rattle.std.specs.Prelude.{◌⊎◌}
 use Rattle.std.specs.List.{flat_map}
 use Rattle.std.specs.Option.{option_to_list}
 use Rattle.std.proofs.lemmas.Grind.{flat_map-append}
+use Rattle.std.proofs.lemmas.List.{append-nil}
 use Rattle.raft_codec.specs.Codec.{Codec}
 use Rattle.proof_packed.specs.Nodes.{PackedMessage}
 use Rattle.proof_packed.specs.Stores.{Application}
 use Rattle.proof_requests.specs.raft_core.raft_peers.declared.output.Output.{Output}
 use Rattle.proof_requests.specs.raft_core.raft_peers.declared.output.Output.TheVariants as outputs
-use Rattle.proof_requests.specs.raft_core.raft_peers.Sends.{LeaveAll, LeavesInParts, LeavesWhole}
-use Rattle.proof_requests.specs.raft_core.raft_peers.Parts.{outgoing_of}
+use Rattle.proof_requests.specs.raft_core.raft_peers.Sends.{IsPreparing, LeaveAll, LeavesWhole, Prepares, Sends}
+use Rattle.proof_requests.specs.raft_core.raft_peers.Parts.{Outgoing, outgoing_of}
 use Rattle.raft_cluster.specs.Clusters.{AreAllBut, AreOf, Carries}
 use Rattle.proof_requests.specs.Frames.{frames_of as frames_in}
 use Rattle.proof_requests.proofs.Sent.{frames_more}
@@ -49,14 +50,14 @@ module _ {S : Type 0} (app : Application S) (codec : Codec S) where
   carries_quiet [] q = carries_none
   carries_quiet (outputs.Send to bytes ∷ out) q =
       (let rest = carries_quiet out q.1 in record { carried = None ∷ rest.carried; each = (q.0, rest.each); messages = rest.messages })
-  carries_quiet (outputs.Append bytes end ∷ out) q = absurd q.0
+  carries_quiet (outputs.Append bytes end next ∷ out) q = absurd q.0
   carries_quiet (outputs.Install p ∷ out) q = absurd q.0
   carries_quiet (outputs.Execute e ∷ out) q = absurd q.0
   carries_quiet (outputs.Reply r ∷ out) q = carries_quiet out q.1
   carries_quiet (outputs.Read r ∷ out) q = carries_quiet out q.1
 
-  -- a message leaves whole, or in parts
-  one_carried : (start : ℕ) (m : PackedMessage S) (out : List (Output S)) → LeavesWhole app codec start m out ⊎ LeavesInParts app codec start m out
+  -- a message leaves whole, or not yet
+  one_carried : (start : ℕ) (m : PackedMessage S) (out : List (Output S)) → LeavesWhole app codec start m out ⊎ IsPreparing app codec start m out
       → Carries app codec (m ∷ []) (frames_in out)
   one_carried start m out (inl w) =
       subst (λ (o : List (Output S)). Carries app codec (m ∷ []) (frames_in o)) (sym w.leaves)
@@ -66,13 +67,29 @@ module _ {S : Type 0} (app : Application S) (codec : Codec S) where
         messages = inr ([], refl, refl);
       })
   one_carried start m out (inr p) =
-      let rest : Carries app codec [] (frames_in out) = carries_quiet out (quiet_parts codec start (outgoing_of codec m) out p.parts) in
-      record { carried = rest.carried; each = rest.each; messages = inl (p.brings, rest.messages) }
+      subst (λ (o : List (Output S)). Carries app codec (m ∷ []) (frames_in o)) (sym p.leaves)
+      (record { carried = []; each = tt; messages = inl (p.brings, refl) })
 
-  pub carries_said : (start : ℕ) (ms : List (PackedMessage S)) (out : List (Output S)) → LeaveAll app codec start ms out
+  all_carried : (start : ℕ) (ms : List (PackedMessage S)) (out : List (Output S)) → LeaveAll app codec start ms out
       → Carries app codec ms (frames_in out)
-  carries_said start [] out h = subst (λ (o : List (Output S)). Carries app codec [] (frames_in o)) (sym h) carries_none
-  carries_said start (m ∷ ms) out (front, rest, is, one, others) =
+  all_carried start [] out h = subst (λ (o : List (Output S)). Carries app codec [] (frames_in o)) (sym h) carries_none
+  all_carried start (m ∷ ms) out (front, rest, is, one, others) =
       subst (λ (o : List (Output S)). Carries app codec (m ∷ ms) (frames_in o)) (sym is)
       (subst (Carries app codec (m ∷ ms)) (sym (frames_more front rest))
-      (carries_more (m ∷ []) ms (frames_in front) (frames_in rest) (one_carried start m front one) (carries_said start ms rest others)))
+      (carries_more (m ∷ []) ms (frames_in front) (frames_in rest) (one_carried start m front one) (all_carried start ms rest others)))
+
+  -- parts of one whose snapshot is encoded
+  prepared_carried : (start : ℕ) (old new : List (PackedMessage S)) (going going' : List Outgoing) (out : List (Output S))
+      → Prepares app codec start old going out new going' → Carries app codec [] (frames_in out)
+  prepared_carried start old new going going' out p =
+      ⊎_elim (λ none. subst (λ (o : List (Output S)). Carries app codec [] (frames_in o)) (sym none) carries_none)
+      (λ one. carries_quiet out (quiet_parts codec start (outgoing_of codec one.0) out one.2.parts)) p.leaves
+
+  pub carries_said : (start : ℕ) (old new : List (PackedMessage S)) (going going' : List Outgoing) (ms : List (PackedMessage S))
+      (out : List (Output S)) → Sends app codec start ms old going out new going' → Carries app codec ms (frames_in out)
+  carries_said start old new going going' ms out s =
+      subst (λ (o : List (Output S)). Carries app codec ms (frames_in o)) (sym s.leaves)
+      (subst (Carries app codec ms) (sym (frames_more s.frames s.parts))
+      (subst (λ (sent : List (PackedMessage S)). Carries app codec sent (frames_in s.frames ++ frames_in s.parts)) (append-nil ms)
+      (carries_more ms [] (frames_in s.frames) (frames_in s.parts) (all_carried start ms s.frames s.sends.leave)
+      (prepared_carried start s.waiting new going going' s.parts s.prepares))))

@@ -24,8 +24,8 @@ use Rattle.proof_requests.specs.raft_core.raft_reads.declared.reads.Reader.{Read
 use Rattle.proof_requests.specs.raft_core.Calls.{Receives, Releases, TakesContent, TakesMessage}
 use Rattle.proof_requests.specs.raft_core.Laws.{IsNotOk, read_replies_of, replies_of}
 use Rattle.proof_requests.specs.raft_core.Outputs.{executed_outputs, install, reads_out, replies_out, said_outputs}
-use Rattle.proof_requests.specs.raft_core.raft_peers.Sends.{LeaveAll}
-use Rattle.proof_requests.specs.raft_core.raft_peers.Parts.{assembled}
+use Rattle.proof_requests.specs.raft_core.raft_peers.Sends.{Sends}
+use Rattle.proof_requests.specs.raft_core.raft_peers.Parts.{Outgoing, assembled}
 use Rattle.proof_requests.specs.raft_core.raft_reads.Reads.{ReadsView, count_over, read_replies, refused_left, refused_replies, told, with_heard, with_left}
 use Rattle.proof_requests.specs.raft_core.Outputs.{executed_after, handed_after}
 use Rattle.proof_requests.specs.raft_core.Views.{CoreView}
@@ -75,7 +75,7 @@ nothing_kept es answers.Unknown never = tt
 pub quiet_kept : {S : Type 0} (codec : Codec S) (es : List Entry) (out : List (Output S)) → AreQuiet codec out → AreKept es (read_replies_of out) → AreKept es (answers_in out)
 quiet_kept codec es [] q k = tt
 quiet_kept codec es (outputs.Send to bytes ∷ out) q k = quiet_kept codec es out q.1 k
-quiet_kept codec es (outputs.Append bytes end ∷ out) q k = absurd q.0
+quiet_kept codec es (outputs.Append bytes end next ∷ out) q k = absurd q.0
 quiet_kept codec es (outputs.Install xs ∷ out) q k = absurd q.0
 quiet_kept codec es (outputs.Execute e ∷ out) q k = absurd q.0
 quiet_kept codec es (outputs.Reply r ∷ out) q k = (nothing_kept es r.answer q.0, quiet_kept codec es out q.1 k)
@@ -194,12 +194,12 @@ none_install (x ∷ xs) = none_install xs
 
 -- what steps say, and answers to reads
 pub said_kept : {S : Type 0} (app : Application S) (codec : Codec S) (start : ℕ) (ps : List Proposal) (said : PackedRecords S) (frames : List (Output S))
-    → LeaveAll app codec start said.bag frames → (qs : List Reply) (out : List (Output S)) → out ≡ said_outputs frames said ps ++ reads_out qs
-    → AreKept (executed_in out) (replies_of out)
-said_kept {S} app codec start ps said frames leave qs out leaves =
+    (old new : List (PackedMessage S)) (going going' : List Outgoing) → Sends app codec start said.bag old going frames new going'
+    → (qs : List Reply) (out : List (Output S)) → out ≡ said_outputs frames said ps ++ reads_out qs → AreKept (executed_in out) (replies_of out)
+said_kept {S} app codec start ps said frames old new going going' sends qs out leaves =
     let es = map (λ (x : Executed). x.entry) said.executed in
     let last : List (Output S) = executed_outputs es ps in
-    let silent : replies_of frames ≡ [] = none_sent frames (messages_send app codec start said.bag frames leave) in
+    let silent : replies_of frames ≡ [] = none_sent frames (messages_send app codec start old new going going' said.bag frames sends) in
     let said_is : replies_of (said_outputs frames said ps) ≡ replies_of last =
     replies_more frames (map install said.installed ++ last)
     ∙ ((λ i. silent i ++ (replies_more (map install said.installed) last ∙ ap (λ rs. rs ++ replies_of last) (none_install said.installed)) i)) in
@@ -207,7 +207,7 @@ said_kept {S} app codec start ps said frames leave qs out leaves =
     ap replies_of leaves
     ∙ (replies_more (said_outputs frames said ps) (reads_out qs)
     ∙ ((λ i. said_is i ++ none_read S qs i) ∙ append_nil (replies_of last))) in
-    subst (λ xs. AreKept xs (replies_of out)) (sym (ap executed_in leaves ∙ executed_said app codec start said frames leave ps qs))
+    subst (λ xs. AreKept xs (replies_of out)) (sym (ap executed_in leaves ∙ executed_said app codec start said frames old new going going' sends ps qs))
     (subst (AreKept es) (sym same) (executed_kept S es ps))
   where
     append_nil : (rs : List Reply) → rs ++ [] ≡ rs

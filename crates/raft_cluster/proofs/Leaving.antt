@@ -10,7 +10,7 @@ use Rattle.raft_answers.specs.Answers.{settled_left, settled_replies}
 use Rattle.raft_node.specs.declared.record.Executed.{Executed}
 use Rattle.raft_store.specs.declared.entry.Entry.{Entry}
 use Rattle.raft_codec.specs.Codec.{Codec}
-use Rattle.proof_packed.specs.Nodes.{PackedInstalled, PackedRecords}
+use Rattle.proof_packed.specs.Nodes.{PackedInstalled, PackedMessage, PackedRecords}
 use Rattle.proof_packed.specs.Stores.{Application}
 use Rattle.proof_requests.specs.raft_packed_server.declared.batch.Written.{Written}
 use Rattle.proof_requests.specs.raft_core.raft_peers.declared.frame.PartReply.{PartReply}
@@ -22,7 +22,7 @@ use Rattle.proof_requests.specs.raft_core.Calls.{append, appended}
 use Rattle.proof_requests.specs.raft_core.raft_peers.Frames.{answered, asked, granted}
 use Rattle.proof_requests.specs.raft_core.Laws.{IsNotOk}
 use Rattle.proof_requests.specs.raft_core.Outputs.{executed_outputs, install, reads_out, replies_out, said_outputs}
-use Rattle.proof_requests.specs.raft_core.raft_peers.Sends.{LeaveAll}
+use Rattle.proof_requests.specs.raft_core.raft_peers.Sends.{Sends}
 use Rattle.proof_requests.specs.raft_core.raft_peers.Parts.{AreParts, Outgoing}
 use Rattle.proof_requests.proofs.raft_peers_proofs.Sending.{AreSends, messages_send}
 use Rattle.proof_requests.specs.Frames.{frames_of as frames_in}
@@ -43,7 +43,7 @@ module _ {S : Type 0} (codec : Codec S) where
   pub quiet_executed : (out : List (Output S)) → AreQuiet codec out → executed_in out ≡ []
   quiet_executed [] q = refl
   quiet_executed (outputs.Send to bytes ∷ out) q = quiet_executed out q.1
-  quiet_executed (outputs.Append bytes end ∷ out) q = absurd q.0
+  quiet_executed (outputs.Append bytes end next ∷ out) q = absurd q.0
   quiet_executed (outputs.Install p ∷ out) q = absurd q.0
   quiet_executed (outputs.Execute e ∷ out) q = absurd q.0
   quiet_executed (outputs.Reply r ∷ out) q = quiet_executed out q.1
@@ -52,7 +52,7 @@ module _ {S : Type 0} (codec : Codec S) where
   pub quiet_installed : (out : List (Output S)) → AreQuiet codec out → installed_in out ≡ []
   quiet_installed [] q = refl
   quiet_installed (outputs.Send to bytes ∷ out) q = quiet_installed out q.1
-  quiet_installed (outputs.Append bytes end ∷ out) q = absurd q.0
+  quiet_installed (outputs.Append bytes end next ∷ out) q = absurd q.0
   quiet_installed (outputs.Install p ∷ out) q = absurd q.0
   quiet_installed (outputs.Execute e ∷ out) q = absurd q.0
   quiet_installed (outputs.Reply r ∷ out) q = quiet_installed out q.1
@@ -176,7 +176,7 @@ module _ {S : Type 0} (app : Application S) (codec : Codec S) where
   executed_sent : (out : List (Output S)) → AreSends out → executed_in out ≡ []
   executed_sent [] h = refl
   executed_sent (outputs.Send to bytes ∷ out) h = executed_sent out h.1
-  executed_sent (outputs.Append bytes end ∷ out) h = absurd h.0
+  executed_sent (outputs.Append bytes end next ∷ out) h = absurd h.0
   executed_sent (outputs.Install p ∷ out) h = absurd h.0
   executed_sent (outputs.Execute e ∷ out) h = absurd h.0
   executed_sent (outputs.Reply r ∷ out) h = absurd h.0
@@ -185,19 +185,19 @@ module _ {S : Type 0} (app : Application S) (codec : Codec S) where
   installed_sent : (out : List (Output S)) → AreSends out → installed_in out ≡ []
   installed_sent [] h = refl
   installed_sent (outputs.Send to bytes ∷ out) h = installed_sent out h.1
-  installed_sent (outputs.Append bytes end ∷ out) h = absurd h.0
+  installed_sent (outputs.Append bytes end next ∷ out) h = absurd h.0
   installed_sent (outputs.Install p ∷ out) h = absurd h.0
   installed_sent (outputs.Execute e ∷ out) h = absurd h.0
   installed_sent (outputs.Reply r ∷ out) h = absurd h.0
   installed_sent (outputs.Read r ∷ out) h = absurd h.0
 
-  module _ (start : ℕ) (said : PackedRecords S) (frames : List (Output S)) (leave : LeaveAll app codec start said.bag frames) (ps : List Proposal)
-      (qs : List Reply) where
+  module _ (start : ℕ) (said : PackedRecords S) (frames : List (Output S)) (old new : List (PackedMessage S)) (going going' : List Outgoing)
+      (sends : Sends app codec start said.bag old going frames new going') (ps : List Proposal) (qs : List Reply) where
     abbrev es : List Entry
     es = map (λ (x : Executed). x.entry) said.executed
 
     are_sends : AreSends frames
-    are_sends = messages_send app codec start said.bag frames leave
+    are_sends = messages_send app codec start old new going going' said.bag frames sends
 
     abbrev rest : List (Output S)
     rest = map install said.installed ++ executed_outputs es ps

@@ -1,3 +1,4 @@
+mod Alike
 mod Machines
 mod Servers
 mod Leaving

@@ -58,7 +58,7 @@ module _ {S : Type 0} where
   none_replied (outputs.Reply r ∷ out) h = absurd h.0
   none_replied (outputs.Read r ∷ out) h = none_replied out h.1
   none_replied (outputs.Send to bytes ∷ out) h = none_replied out h.1
-  none_replied (outputs.Append bytes end ∷ out) h = none_replied out h.1
+  none_replied (outputs.Append bytes end next ∷ out) h = none_replied out h.1
   none_replied (outputs.Install p ∷ out) h = none_replied out h.1
   none_replied (outputs.Execute entry ∷ out) h = none_replied out h.1
 
@@ -67,7 +67,7 @@ module _ {S : Type 0} where
   reads_alone (outputs.Reply r ∷ out) h = absurd h.0
   reads_alone (outputs.Read r ∷ out) h = ap (λ rs. r ∷ rs) (reads_alone out h.1)
   reads_alone (outputs.Send to bytes ∷ out) h = reads_alone out h.1
-  reads_alone (outputs.Append bytes end ∷ out) h = reads_alone out h.1
+  reads_alone (outputs.Append bytes end next ∷ out) h = reads_alone out h.1
   reads_alone (outputs.Install p ∷ out) h = reads_alone out h.1
   reads_alone (outputs.Execute entry ∷ out) h = reads_alone out h.1
 
@@ -76,7 +76,7 @@ module _ {S : Type 0} where
   in_order (outputs.Read r ∷ a) b h k = absurd h.0
   in_order (outputs.Reply r ∷ a) b h k = ap (λ rs. r ∷ rs) (in_order a b h.1 k)
   in_order (outputs.Send to bytes ∷ a) b h k = in_order a b h.1 k
-  in_order (outputs.Append bytes end ∷ a) b h k = in_order a b h.1 k
+  in_order (outputs.Append bytes end next ∷ a) b h k = in_order a b h.1 k
   in_order (outputs.Install p ∷ a) b h k = in_order a b h.1 k
   in_order (outputs.Execute entry ∷ a) b h k = in_order a b h.1 k
 
@@ -91,7 +91,7 @@ module _ {S : Type 0} where
   sends_no_reads : (out : List (Output S)) → AreSends out → NoReads out
   sends_no_reads [] h = tt
   sends_no_reads (outputs.Send to bytes ∷ out) h = (tt, sends_no_reads out h.1)
-  sends_no_reads (outputs.Append bytes end ∷ out) h = absurd h.0
+  sends_no_reads (outputs.Append bytes end next ∷ out) h = absurd h.0
   sends_no_reads (outputs.Install p ∷ out) h = absurd h.0
   sends_no_reads (outputs.Execute e ∷ out) h = absurd h.0
   sends_no_reads (outputs.Reply r ∷ out) h = absurd h.0
@@ -101,7 +101,7 @@ module _ {S : Type 0} where
   sends_in_order : (out : List (Output S)) → AreSends out → AreInOrder out
   sends_in_order [] h = refl
   sends_in_order (outputs.Send to bytes ∷ out) h = sends_in_order out h.1
-  sends_in_order (outputs.Append bytes end ∷ out) h = absurd h.0
+  sends_in_order (outputs.Append bytes end next ∷ out) h = absurd h.0
   sends_in_order (outputs.Install p ∷ out) h = absurd h.0
   sends_in_order (outputs.Execute e ∷ out) h = absurd h.0
   sends_in_order (outputs.Reply r ∷ out) h = absurd h.0
@@ -198,6 +198,6 @@ module _ {S : Type 0} (app : Application S) (codec : Codec S) (core new : CoreVi
       subst AreInOrder (sym r.leaves)
       (in_order {S = S} (said_outputs r.frames r.said ps) (reads_out qs)
       (both_no_reads r.frames (map install r.said.installed ++ executed_outputs es ps)
-      (sends_no_reads r.frames (messages_send app codec core.start r.said.bag r.frames r.sends.leave))
+      (sends_no_reads r.frames (messages_send app codec core.start core.preparing new.preparing core.outgoing new.outgoing r.said.bag r.frames r.sends))
       (both_no_reads {S = S} (map install r.said.installed) (executed_outputs es ps) (install_no_reads r.said.installed) (executed_no_reads S es ps)))
       (reads_no_replies S qs))

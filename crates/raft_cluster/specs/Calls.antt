@@ -10,14 +10,14 @@ use Rattle.proof_requests.specs.raft_core.declared.driver.OpenedCore.{OpenedCore
 use Rattle.proof_requests.specs.raft_core.declared.error.FrameError.{FrameError}
 use Rattle.proof_requests.specs.raft_core.declared.error.FrameError.TheVariants.{Core}
 use Rattle.proof_requests.specs.raft_core.raft_peers.declared.output.Output.{Output}
-use Rattle.proof_requests.specs.raft_core.Calls.{Admits, AdmitsRead, Begins, BeginsNewLog, Releases, Writes}
+use Rattle.proof_requests.specs.raft_core.Calls.{Admits, AdmitsRead, Begins, BeginsNewLog, GivesUpLog, Releases, TakesOverLog, Writes}
 use Rattle.proof_requests.specs.raft_core.Views.{CoreView}
 use Rattle.raft_cluster.specs.declared.comes.Comes.{Comes}
 use Rattle.raft_cluster.specs.declared.comes.Comes.TheVariants.{Done as IsDone, NotOpen, NotTaken, Opened}
 use Rattle.raft_cluster.specs.declared.machine.Handed.{Handed}
 use Rattle.raft_cluster.specs.declared.machine.Done.{Done}
 use Rattle.raft_cluster.specs.declared.machine.Machine.{Machine}
-use Rattle.raft_cluster.specs.Disks.{flushed, torn}
+use Rattle.raft_cluster.specs.Disks.{flushed, flushed_beside, torn}
 use Rattle.raft_cluster.specs.Outputs.{handed_in, is_packet, others_in}
 use Rattle.raft_cluster.specs.Servers.{log_on}
 
@@ -69,7 +69,7 @@ pub record ByWrite {S : Type 0} (app : Application S) (codec : Codec S) (old : M
   pub leaves : out ≡ others_in said
   pub becomes : new ≡ with_handed (handed_in said) (record old { core = Some next })
 
--- the bytes that were handed out, if any, are on disk, and the server hears up to where the log is
+-- the bytes that were handed out, if any, are on disk, and in the file beside it, and the server hears up to where the log is
 pub record ByFlush {S : Type 0} (app : Application S) (codec : Codec S) (old : Machine S) (out : List (Output S)) (new : Machine S) : Type 0 where
   pub core : CoreView S
   pub is_open : old.core ≡ Some core
@@ -81,8 +81,9 @@ pub record ByFlush {S : Type 0} (app : Application S) (codec : Codec S) (old : M
   pub now : new.core ≡ Some next
   pub written : new.written ≡ None
   pub disk : new.disk.items ≡ flushed old
+  pub beside : new.beside.items ≡ flushed_beside old
 
--- a server begins a new log, whose bytes take the old one's place on disk, all at once
+-- a server begins a new log, whose bytes make a file beside its disk
 pub record ByNewLog {S : Type 0} (codec : Codec S) (old : Machine S) (out : List (Output S)) (new : Machine S) : Type 0 where
   pub none : out ≡ []
   pub core : CoreView S
@@ -90,10 +91,25 @@ pub record ByNewLog {S : Type 0} (codec : Codec S) (old : Machine S) (out : List
   pub next : CoreView S
   pub log : Written
   pub does : BeginsNewLog codec (log_on old) core log next
-  pub id : new.id ≡ old.id
-  pub now : new.core ≡ Some next
-  pub written : new.written ≡ old.written
-  pub disk : new.disk.items ≡ log.bytes.items
+  pub becomes : new ≡ record old { core = Some next; beside = log.bytes }
+
+module _ {S : Type 0} where
+  -- that file takes the disk's place, all at once
+  pub record ByTakeOver (old : Machine S) (out : List (Output S)) (new : Machine S) : Type 0 where
+    pub none : out ≡ []
+    pub core : CoreView S
+    pub is_open : old.core ≡ Some core
+    pub next : CoreView S
+    pub end : ℕ
+    pub does : TakesOverLog core (Some end) next
+    pub id : new.id ≡ old.id
+    pub now : new.core ≡ Some next
+    pub written : new.written ≡ old.written
+    pub disk : new.disk.items ≡ old.beside.items
+
+  -- or it is given up
+  abbrev pub GivesUp : CoreView S → List (Output S) → CoreView S → Type 0
+  GivesUp old out new = (out ≡ []) × GivesUpLog old new
 
 -- Frames
 

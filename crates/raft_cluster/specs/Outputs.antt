@@ -45,7 +45,7 @@ module _ {S : Type 0} where
 
   -- all but bytes for the log's end
   abbrev pub other_in : Output S → List (Output S)
-  other_in (outputs.Append bytes end) = []
+  other_in (outputs.Append bytes end next) = []
   other_in x = x ∷ []
 
   abbrev pub others_in : List (Output S) → List (Output S)
@@ -53,7 +53,7 @@ module _ {S : Type 0} where
 
   -- these bytes: the last ones
   abbrev pub handed_after : Option Handed → Output S → Option Handed
-  handed_after before (outputs.Append bytes end) = Some (record { bytes = bytes; end = end })
+  handed_after before (outputs.Append bytes end next) = Some (record { bytes = bytes; end = end; next = next })
   handed_after before _ = before
 
   abbrev pub handed_in : List (Output S) → Option Handed

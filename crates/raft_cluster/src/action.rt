@@ -56,8 +56,12 @@ pub enum Action {
         id: u64,
         bytes: Items<u8>,
     },
-    /// A server begins a new log, if its log is long, which takes the old one's place on its disk.
+    /// A server begins a new log, if its log is long, in a file beside its disk.
     Checkpoint(u64),
+    /// The new log that is on its way takes the old one's place on the server's disk.
+    TakeOver(u64),
+    /// The new log that is on its way is given up.
+    GiveUp(u64),
     /// A server begins a new log, if its log is long, and stops before that one has taken the old one's place.
     CrashInCheckpoint(u64),
     /// A server stops. Of what it handed out and isn't flushed so many bytes are on its disk.
@@ -161,6 +165,8 @@ impl fmt::Display for Action {
                 write!(f, "receive {id} x{bytes}")
             }
             Action::Checkpoint(id) => write!(f, "checkpoint {id}"),
+            Action::TakeOver(id) => write!(f, "take-over {id}"),
+            Action::GiveUp(id) => write!(f, "give-up {id}"),
             Action::CrashInCheckpoint(id) => write!(f, "checkpoint {id} crash"),
             Action::Crash { id, bytes } => write!(f, "crash {id} at {bytes}"),
             Action::Corrupt { id, position } => write!(f, "corrupt {id} {position}"),

@@ -405,6 +405,26 @@ impl<M: StateMachine> Cluster<M> {
         self.machines[place].begin_log()
     }
 
+    /// A server's new log takes the old one's place, if one is on its way.
+    fn take_over(&mut self, id: u64) -> Comes
+        ensures { Holds M.application M.codec self.old → Holds M.application M.codec self.new }
+    {
+        let Some(place) = place_of(&self.machines, id) else {
+            return Comes::NoServer;
+        };
+        self.machines[place].take_over(self.alloc)
+    }
+
+    /// Or it is given up.
+    fn give_up(&mut self, id: u64) -> Comes
+        ensures { Holds M.application M.codec self.old → Holds M.application M.codec self.new }
+    {
+        let Some(place) = place_of(&self.machines, id) else {
+            return Comes::NoServer;
+        };
+        self.machines[place].give_up_log()
+    }
+
     /// A server stops while it begins a new log.
     fn crash_in_checkpoint(&mut self, id: u64) -> Comes
         ensures { Holds M.application M.codec self.old → Holds M.application M.codec self.new }
@@ -566,6 +586,8 @@ impl<M: StateMachine> Cluster<M> {
             }
             Action::Receive { id, bytes } => self.receive(*id, bytes.as_slice()),
             Action::Checkpoint(id) => Ok(self.checkpoint(*id)),
+            Action::TakeOver(id) => Ok(self.take_over(*id)),
+            Action::GiveUp(id) => Ok(self.give_up(*id)),
             Action::CrashInCheckpoint(id) => Ok(self.crash_in_checkpoint(*id)),
             Action::Crash { id, bytes } => self.crash(*id, *bytes),
             Action::Corrupt { id, position } => Ok(self.corrupt(*id, *position)),

@@ -37,9 +37,11 @@ pub enum Comes {
     Flushed { len: usize },
     /// Nothing was handed out.
     NothingFlushed,
+    /// A new log has begun beside the old one, and has so many bytes.
+    Begun { len: usize },
     /// A new log has taken the old one's place on disk, which has so many bytes now.
     Replaced { len: usize },
-    /// No new log begins.
+    /// No new log begins, or takes the old one's place.
     NoNewLog,
     /// The server stopped, and its disk has so many bytes now.
     Crashed { len: usize },
@@ -75,7 +77,8 @@ impl fmt::Display for Comes {
             Comes::NothingWritten => f.write_str("nothing to write"),
             Comes::Flushed { len } => write!(f, "{len} bytes on disk"),
             Comes::NothingFlushed => f.write_str("nothing to flush"),
-            Comes::Replaced { len } => write!(f, "a new log of {len} bytes"),
+            Comes::Begun { len } => write!(f, "a new log of {len} bytes"),
+            Comes::Replaced { len } => write!(f, "{len} bytes on disk"),
             Comes::NoNewLog => f.write_str("no new log"),
             Comes::Crashed { len } => write!(f, "{len} bytes on disk"),
             Comes::NoByte => f.write_str("no such byte"),

@@ -5,10 +5,11 @@
 //!
 //! Until a byte on a disk is changed by hand (`Corrupt`), or a packet that no server sent is taken (`Receive`), the cluster follows the
 //! model's servers after each action (`Follows`, [`Cluster::play`]): each server that serves, with the bytes on its disk, stands for one
-//! that took the same steps, packed, and what left it is what that one said. So some events of a world make what is on the disks and
-//! all that has left, and what clients were told agrees ([`clusters_follow`]). What clients asked and were told is linearizable, whatever
-//! the object that the servers replicate ([`clusters_see_one_object`]); and no acknowledged write is lost: clients were told of an entry
-//! with its bytes as executed, at the index that its answer names (`KeepsWrites`).
+//! that took the same steps, packed, and what left it is what that one said; so it does once a new log, which was made in a file beside
+//! the disk, takes its place. So some events of a world make what is on the disks and all that has left, and what clients were told
+//! agrees ([`clusters_follow`]). What clients asked and were told is linearizable, whatever the object that the servers replicate
+//! ([`clusters_see_one_object`]); and no acknowledged write is lost: clients were told of an entry with its bytes as executed, at the
+//! index that its answer names (`KeepsWrites`).
 //!
 //! Whatever the actions are, an answer that says `ok` names the index of an entry that clients were told of as executed
 //! (`KeepsAcknowledged`).

@@ -3,10 +3,10 @@
 ghost use Rattle.std.specs.Prelude.{◌≡◌, ◌++◌, [], IfOk, None, OnOk, length, take, true};
 ghost use Rattle.proof_requests.specs.raft_core.Calls.{Receives, Ticks};
 ghost use Rattle.proof_requests.specs.Actions.{Initializes};
-ghost use Rattle.raft_cluster.specs.Calls.{ByCore, ByFlush, ByNewLog, ByWrite, Calls, Never, ReadsIf, Refuses, RequestsIf, StartsIf, Stops};
+ghost use Rattle.raft_cluster.specs.Calls.{ByCore, ByFlush, ByNewLog, ByTakeOver, ByWrite, Calls, GivesUp, Never, ReadsIf, Refuses, RequestsIf, StartsIf, Stops};
 ghost use Rattle.raft_cluster.specs.Calls.{is_done, is_opened, is_refused, with_handed};
 ghost use Rattle.raft_cluster.specs.Clusters.{IsNew};
-ghost use Rattle.raft_cluster.specs.Disks.{bytes_of, torn};
+ghost use Rattle.raft_cluster.specs.Disks.{bytes_of, next_of, torn};
 ghost use Rattle.raft_cluster.specs.Outputs.{handed_in, others_in};
 ghost use Rattle.raft_cluster.specs.Servers.{log_on};
 
@@ -27,6 +27,8 @@ pub struct Machine<M: StateMachine> {
     id: u64,
     core: Option<RaftCore<M>>,
     disk: Vec<u8>,
+    /// The file beside it, for a new log until that takes the old one's place. No start reads it.
+    beside: Vec<u8>,
     /// What the server has handed out for its log's end, and isn't on disk.
     written: Option<Handed>,
     /// Where the last bytes that were flushed begin.
@@ -40,17 +42,19 @@ impl<M: StateMachine> Drop for Machine<M> {
             id: _,
             core: _,
             disk: _,
+            beside: _,
             written: _,
             last: _,
         } = self;
     }
 }
 
-/// Bytes that a server has handed out for its log's end, and which end it then has.
+/// Bytes that a server has handed out for its log's end, which end it then has, and those for the end of a new log that is on its way.
 #[derive(Debug, Drop)]
 pub struct Handed {
     pub bytes: Items<u8>,
     pub end: u64,
+    pub next: Option<Items<u8>>,
 }
 
 /// What comes of a call, and what leaves the server.
@@ -77,6 +81,16 @@ fn spill(written: &Option<Handed>, count: u64, disk: &mut Vec<u8>) -> Result<(),
     }
 }
 
+/// What was handed out for the end of a new log comes to its file.
+fn append_beside(next: &Option<Items<u8>>, beside: &mut Vec<u8>) -> Result<(), AllocError>
+    ensures { OnOk result (beside.new.items ≡ beside.old.items ++ next_of next.now) }
+{
+    match next {
+        None => Ok(()),
+        Some(next) => beside.extend_from_slice(next.as_slice()),
+    }
+}
+
 /// What leaves, without the bytes for the log's end, and these.
 fn split<M: StateMachine>(
     alloc: Global,
@@ -89,7 +103,7 @@ fn split<M: StateMachine>(
     let mut handed = None;
     'outputs: for output in outputs {
         match output {
-            Output::Append { bytes, end } => handed = Some(Handed { bytes, end }),
+            Output::Append { bytes, end, next } => handed = Some(Handed { bytes, end, next }),
             other => others.push(other)?,
         }
     }
@@ -119,6 +133,7 @@ impl<M: StateMachine> Machine<M> {
             id,
             core: None,
             disk: Vec::new(alloc),
+            beside: Vec::new(alloc),
             written: None,
             last: 0,
         }
@@ -369,6 +384,7 @@ impl<M: StateMachine> Machine<M> {
         };
         let last = self.disk.len();
         self.disk.extend_from_slice(written.bytes.as_slice())?;
+        append_beside(&written.next, &mut self.beside)?;
         self.last = last;
         match core.flushed(written.end) {
             Ok(outputs) => Ok(Done {
@@ -384,7 +400,7 @@ impl<M: StateMachine> Machine<M> {
         }
     }
 
-    /// The server begins a new log if its log is long, and the new one takes the old one's place on disk.
+    /// The server begins a new log if its log is long, in a file beside its disk.
     pub fn begin_log(&mut self) -> Comes
         ensures does { Calls (ByNewLog M.codec) self.old [] self.new }
         ensures id { self.new.id ≡ self.old.id }
@@ -396,15 +412,43 @@ impl<M: StateMachine> Machine<M> {
         let Some(log) = core.begin_log(&name) else {
             return Comes::NoNewLog;
         };
-        self.disk = log.bytes;
+        self.beside = log.bytes;
+        Comes::Begun {
+            len: self.beside.len(),
+        }
+    }
+
+    /// The new log that is on its way takes the old one's place on disk.
+    pub fn take_over(&mut self, alloc: Global) -> Comes
+        ensures does { Calls ByTakeOver self.old [] self.new }
+        ensures id { self.new.id ≡ self.old.id }
+    {
+        let Some(core) = &mut self.core else {
+            return Comes::NotOpen;
+        };
+        let Some(_) = core.take_over() else {
+            return Comes::NoNewLog;
+        };
+        self.disk = std::mem::replace(&mut self.beside, Vec::new(alloc));
         self.last = 0;
         Comes::Replaced {
             len: self.disk.len(),
         }
     }
 
-    /// The server begins a new log if its log is long, and stops before that one has taken the old one's place. What was written of it
-    /// stands in a file of its own, which no start reads.
+    /// The new log that is on its way is given up.
+    pub fn give_up_log(&mut self) -> Comes
+        ensures does { Calls (ByCore GivesUp) self.old [] self.new }
+        ensures id { self.new.id ≡ self.old.id }
+    {
+        let Some(core) = &mut self.core else {
+            return Comes::NotOpen;
+        };
+        core.give_up_log();
+        Comes::Done
+    }
+
+    /// The server begins a new log if its log is long, and stops before that one has taken the old one's place.
     pub fn crash_in_begin_log(&mut self) -> Comes
         ensures does { Calls Never self.old [] self.new }
         ensures id { self.new.id ≡ self.old.id }

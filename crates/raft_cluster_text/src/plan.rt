@@ -132,6 +132,8 @@ fn parse_one(name: &str, number: u64) -> Option<Action> {
         "cut" => Some(Action::Cut(number)),
         "heal" => Some(Action::Heal(number)),
         "checkpoint" => Some(Action::Checkpoint(number)),
+        "take-over" => Some(Action::TakeOver(number)),
+        "give-up" => Some(Action::GiveUp(number)),
         "run" => Some(Action::Run(number)),
         _ => None,
     }

@@ -315,14 +315,20 @@ impl Drawer {
         Ok(Action::Crash { id, bytes })
     }
 
-    /// A new log, mostly once all records are on disk; seldom the server stops then.
+    /// What becomes of a new log: it is begun, or has the old one's place; seldom it is given up, or the server stops.
+    fn draw_log(&mut self, id: u64) -> Action {
+        match self.dice.below(10) {
+            0 => Action::CrashInCheckpoint(id),
+            1 => Action::GiveUp(id),
+            2..=5 => Action::TakeOver(id),
+            _ => Action::Checkpoint(id),
+        }
+    }
+
+    /// A new log, mostly once all records are on disk.
     fn draw_checkpoint(&mut self, cluster: &Cluster<Entries>) -> Result<Action, AllocError> {
         let id = self.any_open(cluster)?;
-        let action = if self.dice.chance(20) {
-            Action::CrashInCheckpoint(id)
-        } else {
-            Action::Checkpoint(id)
-        };
+        let action = self.draw_log(id);
         if self.dice.chance(30) {
             return Ok(action);
         }

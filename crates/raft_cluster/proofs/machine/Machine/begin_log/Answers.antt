@@ -13,8 +13,5 @@ returns-clause-does g c =
       log = c.in-Some-begin_log.log;
       does = subst (λ (name : LogId). BeginsNewLog g.M.Machine.codec name c.in-Some.core c.in-Some-begin_log.log c.begin_log.new.self) c.log-name.ensures
           c.in-Some-begin_log.ensures;
-      id = refl;
-      now = refl;
-      written = refl;
-      disk = refl;
+      becomes = refl;
     }))

@@ -4,7 +4,7 @@ use Rattle.std.proofs.lemmas.List.{append-nil}
 use Rattle.raft_cluster.specs.declared.machine.Handed.{Handed}
 use Rattle.raft_cluster.specs.declared.machine.Machine.{Machine}
 use Rattle.raft_cluster.specs.Calls.{ByFlush}
-use Rattle.raft_cluster.specs.Disks.{bytes_of}
+use Rattle.raft_cluster.specs.Disks.{bytes_of, next_bytes_of}
 use Rattle.raft_cluster.proofs.Cores.{disk_flushed, stops_flushed}
 use Rattle.raft_cluster.proofs.machine.Machine.flush.Goals as goal
 
@@ -24,6 +24,7 @@ returns-in-Ok-clause-does g c =
       now = refl;
       written = c.take.ensures.after;
       disk = sym (append-nil m.disk.items) ∙ ap (λ (o : Option Handed). m.disk.items ++ bytes_of o) (sym none);
+      beside = sym (append-nil m.beside.items) ∙ ap (λ (o : Option Handed). m.beside.items ++ next_bytes_of o) (sym none);
     }))
 
 pub returns-in-Ok-flushed-clause-does : goal.returns-in-Ok-flushed-clause-does
@@ -40,6 +41,7 @@ returns-in-Ok-flushed-clause-does g c =
       now = refl;
       written = c.take.ensures.after;
       disk = disk_flushed c.args.self.now _ c.in-Some-take.written way (search rules);
+      beside = c.in_ok-append_beside.ensures ∙ ap (λ (o : Option Handed). c.args.self.now.beside.items ++ next_bytes_of o) (sym way);
     }))
 
 pub returns-clause-does : goal.returns-clause-does
