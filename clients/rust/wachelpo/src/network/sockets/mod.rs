@@ -49,7 +49,7 @@ const CONGESTED: usize = 64 << 20;
 /// How long a handshake may take, and a request for a page.
 const PATIENCE: Duration = Duration::from_secs(3);
 /// How long another answer to who sends nothing more is waited for, and the first one.
-const LAST_ANSWERS: Duration = Duration::from_millis(50);
+const LAST_ANSWERS: Duration = Duration::from_secs(1);
 const UNANSWERED: Duration = Duration::from_secs(30);
 /// The most connections that are neither clients' nor known nodes'.
 const STRANGERS: usize = 128;
