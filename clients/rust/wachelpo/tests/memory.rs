@@ -302,49 +302,12 @@ impl Clock for Hands {
     }
 }
 
-/// A disk that appends once it is let.
-struct Gated {
-    disk: MemoryDisk,
-    gate: Arc<Mutex<()>>,
-}
-
-impl Disk for Gated {
-    fn read(&mut self) -> io::Result<Vec<u8>> {
-        self.disk.read()
-    }
-
-    fn cut(&mut self, end: u64) -> io::Result<()> {
-        self.disk.cut(end)
-    }
-
-    fn append(&mut self, bytes: &[u8]) -> io::Result<()> {
-        let _open = self.gate.lock().unwrap();
-        self.disk.append(bytes)
-    }
-
-    fn begin(&mut self, count: u64) -> io::Result<Box<dyn NewLog>> {
-        self.disk.begin(count)
-    }
-
-    fn take_over(&mut self) -> io::Result<()> {
-        self.disk.take_over()
-    }
-
-    fn give_up(&mut self) {
-        self.disk.give_up();
-    }
-
-    fn generation(&self) -> u64 {
-        self.disk.generation()
-    }
-}
-
 #[test]
 fn what_is_said_does_not_wait_for_a_later_write() {
     let (hands, gate) = (Hands::default(), Arc::default());
-    let disk = Gated {
-        disk: MemoryDisk::new(),
+    let disk = Slow {
         gate: Arc::clone(&gate),
+        ..Slow::default()
     };
     let builder = Node::builder(NodeId(1)).member(NodeId(1), "");
     let node = builder.open_at(disk, hands.clone()).unwrap();
@@ -670,11 +633,12 @@ fn a_disk_that_fails_ends_the_node_before_anything_is_answered() {
     assert!(answers.try_recv().is_err());
 }
 
-/// A disk whose new logs are written once they are let, if there is room for them.
+/// A disk that is appended to once it is let, and whose new logs are so too, if there is room for them.
 #[derive(Clone, Default)]
 struct Slow {
     disk: MemoryDisk,
     gate: Arc<Mutex<()>>,
+    beside: Arc<Mutex<()>>,
     is_full: Arc<AtomicBool>,
 }
 
@@ -683,7 +647,7 @@ struct SlowLog(Slow, Box<dyn NewLog>);
 impl NewLog for SlowLog {
     fn append(&mut self, bytes: &[u8]) -> io::Result<()> {
         let SlowLog(slow, log) = self;
-        let _open = slow.gate.lock().unwrap();
+        let _open = slow.beside.lock().unwrap();
         match slow.is_full.load(Ordering::Relaxed) {
             true => Err(io::ErrorKind::StorageFull.into()),
             false => log.append(bytes),
@@ -701,6 +665,7 @@ impl Disk for Slow {
     }
 
     fn append(&mut self, bytes: &[u8]) -> io::Result<()> {
+        let _open = self.gate.lock().unwrap();
         self.disk.append(bytes)
     }
 
@@ -770,7 +735,7 @@ impl Member {
 #[test]
 fn a_new_log_is_written_while_the_old_one_goes_on() {
     let slow = Slow::default();
-    let closed = slow.gate.lock().unwrap();
+    let closed = slow.beside.lock().unwrap();
     let mut member = alone(slow.clone(), 10_000);
     member.fill(0..100);
     assert_eq!(slow.generation(), 0);
