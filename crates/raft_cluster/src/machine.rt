@@ -3,7 +3,8 @@
 ghost use Rattle.std.specs.Prelude.{◌≡◌, ◌++◌, [], IfOk, None, OnOk, length, take, true};
 ghost use Rattle.proof_requests.specs.raft_core.Calls.{Receives, Ticks};
 ghost use Rattle.proof_requests.specs.Actions.{Initializes};
-ghost use Rattle.raft_cluster.specs.Calls.{ByCore, ByFlush, ByNewLog, ByTakeOver, ByWrite, Calls, GivesUp, Never, ReadsIf, Refuses, RequestsIf, StartsIf, Stops};
+ghost use Rattle.raft_cluster.specs.Calls.{ByCore, ByFlush, ByNewLog, ByTakeOver, ByWrite, Calls, GivesUp};
+ghost use Rattle.raft_cluster.specs.Calls.{Never, ReadsIf, Refuses, RequestsIf, StartsIf, Stops};
 ghost use Rattle.raft_cluster.specs.Calls.{is_done, is_opened, is_refused, with_handed};
 ghost use Rattle.raft_cluster.specs.Clusters.{IsNew};
 ghost use Rattle.raft_cluster.specs.Disks.{bytes_of, next_of, torn};

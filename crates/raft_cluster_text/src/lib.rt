@@ -22,7 +22,7 @@
 //! | `deliver K` | the K-th frame that left a server is taken by its addressee: again, late, or never |
 //! | `cut N`, `heal N` | frames from and to server N don't wait any more, or do again: `deliver all` and `run` leave them out |
 //! | `crash N at B` | server N stops; of what was handed out and isn't flushed the first B bytes are on disk |
-//! | `checkpoint N` | server N begins a new log beside the old one, if all of its log is on disk, and the log is long (`limit log`); `flush N` puts on disk what was handed out for both |
+//! | `checkpoint N` | server N begins a new log beside the old one, if all of that is on disk, and long (`limit log`); `flush N` is for both then |
 //! | `take-over N` | the new log takes the old one's place, if all of it is on disk |
 //! | `give-up N` | or it is given up, as if it couldn't be written |
 //! | `checkpoint N crash` | server N begins a new log, and stops before that has taken the old one's place: no start reads what was written of it |

@@ -57,7 +57,8 @@ pub(crate) fn write_upto(
     cache: &LruCache<u64, Answered>,
     count: usize,
 ) -> Result<usize, AllocError>
-    ensures next { IfOk result (λ next. WritesUpto session (drop count cache.now.entries) (drop next cache.now.entries) out.old.items out.new.items) }
+    ensures next { IfOk result (λ next. WritesUpto session (drop count cache.now.entries) (drop next cache.now.entries)
+        out.old.items out.new.items) }
     ensures full { IfOk result (λ next. next < length cache.now.entries → limit ≤ length out.new.items) }
 {
     let mut next = 0;
