@@ -1,5 +1,6 @@
 pub mod TableValues
 pub mod CrcLemmas
+pub mod Sums
 pub mod ReadLemmas
 pub mod Bytes
 pub mod Frames

@@ -35,6 +35,10 @@ check_of seed position len = crc32c (word seed ++ (double_word position ++ word 
 unfoldable pub sum_of : ℕ → List ℕ → ℕ
 sum_of before payload = crc32c (word before ++ (word (length payload) ++ payload))
 
+-- what stands before a payload of so many bytes, with this sum: length, check, sum
+abbrev pub head : Tail → ℕ → ℕ → List ℕ
+head tail len sum = word len ++ (word (check_of tail.seed tail.position len) ++ word sum)
+
 -- a frame: length, check, sum, payload
 abbrev pub frame : Tail → List ℕ → List ℕ
 frame tail payload = word (length payload) ++ (word (check_of tail.seed tail.position (length payload)) ++ (word (sum_of tail.sum payload) ++ payload))

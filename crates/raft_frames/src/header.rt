@@ -35,7 +35,7 @@ impl LogId {
         fields
     }
 
-    /// The sum of the header.
+    /// The sum of the header: the sum before the first frame.
     #[tactic(auto, unfolding(crate::specs::Format::seed_of))]
     pub(crate) fn seed(&self) -> u32
         ensures { result ≡ seed_of self.now }

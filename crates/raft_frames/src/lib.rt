@@ -31,6 +31,11 @@
 //! A frame that isn't whole ends the log, unless a frame begins behind it: then it was whole once, and
 //! [`Fault::Damaged`] says where it stands. It takes no memory but for its list of payloads, whatever the lengths say.
 //!
+//! # Writing
+//!
+//! [`Tail::push`] writes a frame. Of a large payload [`front_sum`] and [`crc32c_append`] make the sum in steps; then [`Tail::push_head`] writes what
+//! stands before it, and the payload itself is not copied.
+//!
 //! # What its caller does
 //!
 //! - A log that ends at byte 0 is new: write [`LogId::header`] first.
@@ -53,4 +58,4 @@ pub use error::{Fault, PushError, ReadError};
 pub use header::{HEADER_LEN, LogId};
 pub use laws::{damage_is_told, logs_read_back, logs_recover};
 pub use reading::{Log, read};
-pub use tail::{MAX_FRAME, Tail};
+pub use tail::{MAX_FRAME, Tail, front_sum};

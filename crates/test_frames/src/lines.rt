@@ -1,6 +1,7 @@
 //! The lines of a text, each of which is made to one file:
 //!
 //! - `log CLUSTER NODE`: begins a node's log; `push HEX`: appends a frame; `fill COUNT HEX`: one of a byte so often
+//! - `head HEX`: appends a frame's head, whose sum is taken through the payload, and then the payload
 //! - `cut LEN`, `zeros COUNT`, `append HEX`, `set AT HEX`, `flip AT`, `zero AT COUNT`
 //! - `show AT LEN`: prints bytes; `read CLUSTER NODE`: prints the payloads, the end, and where the next frame goes
 //! - `crc HEX..`: prints the sum of bytes, in as many parts
@@ -9,7 +10,7 @@
 use crate::desk::Desk;
 use crate::random;
 use anyhow::{Context, Result, bail};
-use raft_frames::{Log, LogId, crc32c_append};
+use raft_frames::{Log, LogId, crc32c_append, front_sum};
 use std::alloc::Global;
 use std::fmt::Display;
 use std::io::Write;
@@ -30,6 +31,18 @@ fn id(cluster: &str, node: &str) -> Result<LogId> {
 fn push(desk: &mut Desk, payload: &[u8], given: &mut Vec<u8>) -> Result<()> {
     match desk.tail.push(payload, &mut desk.file) {
         Ok(()) => Ok(()),
+        Err(e) => put_line(e, given),
+    }
+}
+
+/// A frame's head, and its payload behind it.
+fn push_head(desk: &mut Desk, payload: &[u8], given: &mut Vec<u8>) -> Result<()> {
+    let Ok(len) = u32::try_from(payload.len()) else {
+        bail!("no payload of a frame");
+    };
+    let sum = crc32c_append(front_sum(desk.tail.sum, len), payload);
+    match desk.tail.push_head(payload, sum, &mut desk.file) {
+        Ok(()) => Ok(desk.file.extend_from_slice(payload)?),
         Err(e) => put_line(e, given),
     }
 }
@@ -96,6 +109,8 @@ fn change(alloc: Global, desk: &mut Desk, words: &[&str], given: &mut Vec<u8>) -
         ["log", cluster, node] => desk.begin(&id(cluster, node)?)?,
         ["push", payload] => push(desk, &hex::decode(alloc, *payload)?, given)?,
         ["push"] => push(desk, &[], given)?,
+        ["head", payload] => push_head(desk, &hex::decode(alloc, *payload)?, given)?,
+        ["head"] => push_head(desk, &[], given)?,
         ["fill", count, byte] => fill(alloc, desk, count, byte, given)?,
         ["cut", len] => desk.file.truncate(len.parse()?),
         ["zeros", count] => desk.append_zeros(count.parse()?)?,

@@ -1,8 +1,8 @@
 use Rattle.std.proofs.lemmas.List.{append_assoc}
-use Rattle.raft_frames.proofs.tail.push_frame.Goals as goal
+use Rattle.raft_frames.proofs.tail.Tail.write.Goals as goal
 
-pub returns-clause-frame : goal.returns-clause-frame
-returns-clause-frame c =
+pub returns-clause-bytes : goal.returns-clause-bytes
+returns-clause-bytes c =
     rw (
       c.in_ok-extend_from_slice-4.ensures.items,
       c.in_ok-extend_from_slice-3.ensures.items,
@@ -13,5 +13,4 @@ returns-clause-frame c =
       c.to_le_bytes-2.ensures,
       c.to_le_bytes.ensures,
       c.check_of-check.ensures,
-      c.sum_of-sum.ensures,
     ) (simp append_assoc)
