@@ -1,6 +1,6 @@
 //! What a receiver has of a snapshot.
 
-ghost use Rattle.std.specs.Prelude.{◌≡◌, IfOk, IfSome, Some, OnOk, OnErr};
+ghost use Rattle.std.specs.Prelude.{◌≡◌, [], IfOk, IfSome, Some, OnOk, OnErr};
 ghost use Rattle.raft_chunks.specs.Assembly.{cursor_of, finished, joined, refusal_of, taken, wanted, Takes, Finishes};
 ghost use Rattle.raft_chunks.specs.Chunks.{piece_of};
 
@@ -9,6 +9,9 @@ use crate::error::{Refusal, TakeError};
 use raft_frames::crc32c;
 use std::alloc::{AllocError, Global};
 use std::marker::Model;
+
+/// For how many bytes there is room at first, at most: a title may claim more than there are.
+const MOST_ROOM: u64 = 1 << 32;
 
 /// A snapshot as far as its chunks came: contracts see `Assembled` of specs/Assembly.antt.
 #[derive(Debug, Drop)]
@@ -24,6 +27,16 @@ impl Model for Assembly {
     ghost Value = { Assembled };
 
     ghost view = { λ a. record { held = a.held; title = a.title; bytes = a.bytes.items } };
+}
+
+/// Room for a snapshot's bytes, if memory has it: so none of them is moved as they come.
+fn room_for(alloc: Global, title: &Title) -> Vec<u8>
+    ensures { result.items ≡ [] }
+{
+    match Vec::with_capacity(alloc, title.len.min(MOST_ROOM) as usize) {
+        Ok(bytes) => bytes,
+        Err(_) => Vec::new(alloc),
+    }
 }
 
 impl Assembly {
@@ -93,7 +106,8 @@ impl Assembly {
         if self.title.is_same(&chunk.at.title) {
             return self.bytes.extend_from_slice(chunk.bytes);
         }
-        let bytes = Vec::from_slice(*self.bytes.allocator(), chunk.bytes)?;
+        let mut bytes = room_for(*self.bytes.allocator(), &chunk.at.title);
+        bytes.extend_from_slice(chunk.bytes)?;
         self.title = chunk.at.title;
         self.bytes = bytes;
         Ok(())
