@@ -1,5 +1,5 @@
 -- What is noted is the snapshot with entries of the log, by the parts of both.
-use Rattle.std.specs.Prelude.{ℕ, ◌≡◌, ◌≤◌, ◌+◌, ◌-◌, Bool, true, false, List, [], ◌∷◌, Option, None, Some, fold, if◌then◌else◌, is_some, nat_lt, not}
+use Rattle.std.specs.Prelude.{ℕ, ◌≡◌, ◌≤◌, ◌+◌, ◌-◌, ◌++◌, Bool, true, false, List, [], ◌∷◌, Option, None, Some, fold, if◌then◌else◌, is_some, nat_lt, not, unwrap_or}
 use Rattle.std.specs.Prelude.{refl}
 use Rattle.std.specs.Option.{option_map}
 use Rattle.std.proofs.Common.{◌∙◌, zero, suc, ap, arith, sym}
@@ -9,7 +9,7 @@ use Rattle.raft_store.specs.Store.{between}
 use Rattle.proof_packed_stores.specs.Stores.{Application, Packed, PackedStore, packed_keep_snapshot, packed_memberships, packed_meta}
 use Rattle.proof_packed_stores.specs.Stores.{with_entries, with_entry}
 use Rattle.raft_packed.specs.Kept.{IsNamedByEnd, IsNotedFolded, NotedStore, StatesView, SummaryView, folded, folded_from, is_longer, kept_if_noted}
-use Rattle.raft_packed.specs.Kept.{no_state, summary_of, with_state}
+use Rattle.raft_packed.specs.Kept.{no_state, state_past, summary_of, with_late, with_state}
 use Rattle.raft_packed.proofs.Ranges.{between_none}
 
 -- what is tested for nothing
@@ -118,3 +118,15 @@ module _ {S : Type 0} (app : Application S) where
   pub folded_named : (t : PackedStore S) (noted : Option (Packed S)) → IsNotedFolded app t.snap t.log noted → IsNamedByEnd app t noted
   folded_named t None is = tt
   folded_named t (Some p) is = ap (λ (q : Packed S). packed_keep_snapshot q t) (sym is)
+
+  -- late entries behind others are late behind them
+  pub late_behind : (p : Packed S) (late more : List Entry) → with_late app p (late ++ more) ≡ with_late app (with_late app p late) more
+  late_behind p [] more = refl
+  late_behind p (e ∷ late) more = late_behind (record p { state = app.apply p.state e }) late more
+
+  -- a snapshot takes what is kept of more entries, which are late then
+  pub taken_noted : (old new : Packed S) (late mid all first : List Entry) (base : Option S) (k : SummaryView)
+      → with_late app new mid ≡ with_state k (unwrap_or base (with_late app old late).state) → all ≡ mid ++ first
+      → with_late app new all ≡ with_state k (state_past app base (with_late app old late) first)
+  taken_noted old new late mid all first base k taken is =
+      ap (with_late app new) is ∙ (late_behind new mid first ∙ ap (λ (p : Packed S). with_late app p first) taken)

@@ -117,7 +117,7 @@ impl<M: Machine> Packed<M> {
     }
 
     /// What is kept but the state.
-    pub(crate) fn summary(&self) -> &Summary
+    pub fn summary(&self) -> &Summary
         ensures { result.now ≡ summary_of self.now }
     {
         &self.summary
@@ -153,13 +153,6 @@ impl<M: Machine> Packed<M> {
             summary: self.summary.copy()?,
             state: self.state.copy()?,
         })
-    }
-
-    /// Takes another state for its own.
-    pub(crate) fn take_state(&mut self, state: M)
-        ensures { self.new ≡ record self.old { state = state } }
-    {
-        self.state = state;
     }
 
     /// Takes what is kept of other entries, but keeps its state.

@@ -2,13 +2,15 @@
 //!
 //! An entry that is applied is kept, and its state isn't made: that of what was applied is read by nobody before it is a snapshot's. Then
 //! the entries are applied to the old snapshot's state, which nobody needs any more, so no state is copied. They are late even then: a few
-//! are applied at a time, while nothing else is to be done, and all of them before the next snapshot.
+//! are applied at a time, while nothing else is to be done, and all of them before a copy of the snapshot leaves or another takes its place.
 
-ghost use Rattle.std.specs.Prelude.{◌≡◌, [], IfOk, IsTrue, None, OnOk, Some, fold, unwrap_or};
+ghost use Rattle.std.specs.Prelude.{◌≡◌, ◌++◌, [], IfOk, IfSome, IsTrue, None, OnOk, Some, fold, unwrap_or};
 ghost use Rattle.std.specs.Option.{option_copied, option_map};
 ghost use Rattle.proof_packed_stores.specs.Stores.{packed, with_entries, with_entry};
-ghost use Rattle.raft_packed.specs.Kept.{IsNotedFolded, state_past, summary_of, with_late};
+ghost use Rattle.raft_frames.specs.Format.{sum_of};
+ghost use Rattle.raft_packed.specs.Kept.{IsNotedFolded, state_past, summary_of, with_late, with_state};
 
+use crate::encoding::{Encodable, Encoded};
 use crate::error::PackedError;
 use crate::log::are_between;
 use crate::machine::Machine;
@@ -19,6 +21,7 @@ use std::alloc::{AllocError, Global};
 use std::collections::{BTreeMap, VecDeque};
 use std::marker::Model;
 use std::mem;
+use std::num::NonZeroUsize;
 
 /// What is noted for the next snapshot.
 #[derive(Drop)]
@@ -32,7 +35,7 @@ struct Note<M: Machine> {
 #[derive(Drop)]
 pub(crate) struct States<M: Machine> {
     /// The snapshot, but that its last entries, the late ones, aren't applied to its state yet.
-    snapshot: Packed<M>,
+    snapshot: Encodable<M>,
     late: VecDeque<Entry>,
     /// The state before the first entries, if it isn't the snapshot's.
     base: Option<M>,
@@ -63,7 +66,7 @@ impl<M: Machine> Model for States<M> {
 fn fold_some<M: Machine>(
     most: usize,
     late: &mut VecDeque<Entry>,
-    snapshot: &mut Packed<M>,
+    snapshot: &mut Encodable<M>,
 ) -> Result<(), AllocError>
     ensures { OnOk result (with_late M.application snapshot.new late.new.items ≡ with_late M.application snapshot.old late.old.items) }
 {
@@ -79,7 +82,7 @@ fn fold_some<M: Machine>(
 /// Applies all late entries to a snapshot's state.
 fn fold_late<M: Machine>(
     late: &mut VecDeque<Entry>,
-    snapshot: &mut Packed<M>,
+    snapshot: &mut Encodable<M>,
 ) -> Result<(), AllocError>
     ensures late { OnOk result (late.new.items ≡ []) }
     ensures snapshot { OnOk result (snapshot.new ≡ with_late M.application snapshot.old late.old.items) }
@@ -89,8 +92,39 @@ fn fold_late<M: Machine>(
     Ok(())
 }
 
+/// A snapshot takes what is kept of more entries, whose state is still to come: before them it has its own, with its late entries, or another.
+fn take_noted<M: Machine>(
+    summary: Summary,
+    base: Option<M>,
+    late: &mut VecDeque<Entry>,
+    snapshot: &mut Encodable<M>,
+)
+    ensures { with_late M.application snapshot.new late.new.items
+        ≡ with_state summary (unwrap_or base (with_late M.application snapshot.old late.old.items).state) }
+{
+    match base {
+        Some(state) => {
+            // they are of the state that this one takes the place of
+            late.clear();
+            *snapshot = Encodable::new(Packed::with_state(summary, state));
+        }
+        None => snapshot.take_summary(summary),
+    }
+}
+
+/// Entries are late behind others. If there are no others, none is moved.
+fn append_late(late: &mut VecDeque<Entry>, more: Vec<Entry>) -> Result<(), AllocError>
+    ensures { OnOk result (late.new.items ≡ late.old.items ++ more.items) }
+{
+    if late.is_empty() {
+        *late = VecDeque::from_vec(more);
+        return Ok(());
+    }
+    late.append(&mut VecDeque::from_vec(more))
+}
+
 /// A copy of a snapshot's state, to which its late entries are applied.
-fn copy_state<M: Machine>(snapshot: &Packed<M>, late: &VecDeque<Entry>) -> Result<M, AllocError>
+fn copy_state<M: Machine>(snapshot: &Encodable<M>, late: &VecDeque<Entry>) -> Result<M, AllocError>
     ensures { IfOk result (λ made. made ≡ fold M.application.apply snapshot.now.state late.now.items) }
 {
     let mut state = snapshot.state().copy()?;
@@ -101,7 +135,7 @@ fn copy_state<M: Machine>(snapshot: &Packed<M>, late: &VecDeque<Entry>) -> Resul
 /// A copy of the state that the first entries give.
 fn copy_first<M: Machine>(
     base: &Option<M>,
-    snapshot: &Packed<M>,
+    snapshot: &Encodable<M>,
     late: &VecDeque<Entry>,
     first: &[Entry],
 ) -> Result<M, AllocError>
@@ -116,6 +150,23 @@ fn copy_first<M: Machine>(
 }
 
 impl<M: Machine> Note<M> {
+    /// A copy of its state, which the first entries give, unless it has another.
+    fn copy_state(
+        &self,
+        base: &Option<M>,
+        snapshot: &Encodable<M>,
+        late: &VecDeque<Entry>,
+        first: &[Entry],
+    ) -> Result<M, AllocError>
+        ensures { IfOk result (λ made. made
+            ≡ unwrap_or self.now.state (state_past M.application base.now (with_late M.application snapshot.now late.now.items) first.now)) }
+    {
+        match &self.state {
+            Some(state) => state.copy(),
+            None => copy_first(base, snapshot, late, first),
+        }
+    }
+
     /// It has its state, which the first entries give after this one, unless it has another.
     fn whole(self, base: M, first: &[Entry]) -> Result<Self, AllocError>
         ensures { IfOk result (λ made. made
@@ -143,7 +194,7 @@ impl<M: Machine> States<M> {
         ensures { result ≡ record { snap = packed M.application []; noted = None; applied = packed M.application [] } }
     {
         States {
-            snapshot: Packed::new(alloc),
+            snapshot: Encodable::new(Packed::new(alloc)),
             late: VecDeque::new(alloc),
             base: None,
             first: Vec::new(alloc),
@@ -166,6 +217,46 @@ impl<M: Machine> States<M> {
     {
         let state = copy_state(&self.snapshot, &self.late)?;
         Ok(Packed::with_state(self.snapshot.summary().copy()?, state))
+    }
+
+    /// A copy of the snapshot. Its late entries are applied before, not to the copy and then once more to what it shares.
+    pub(crate) fn share_snapshot(&mut self) -> Result<Packed<M>, AllocError>
+        ensures copied { IfOk result (λ copied. copied ≡ self.old.snap) }
+        ensures same { OnOk result (self.new ≡ self.old) }
+    {
+        fold_late(&mut self.late, &mut self.snapshot)?;
+        self.copy_snapshot()
+    }
+
+    /// Encodes the next bytes of the snapshot's state, some `most` of them, behind a front, as the payload of a frame behind one with the sum
+    /// `before`; once all are there it sums them, as many at a time. Answers whether more is left to be done.
+    pub(crate) fn encode_some(
+        &mut self,
+        before: u32,
+        front: &[u8],
+        room: usize,
+        most: NonZeroUsize,
+    ) -> Result<bool, AllocError>
+        ensures { self.new ≡ self.old }
+    {
+        if !self.late.is_empty() {
+            return Ok(true);
+        }
+        let alloc = *self.late.allocator();
+        self.snapshot.encode_some(alloc, before, front, room, most)
+    }
+
+    /// The front and the state's bytes behind it, with the sum of a frame that has them, if all of it is encoded and summed: they are given away.
+    pub(crate) fn take_encoded(&mut self, before: u32, front: &[u8]) -> Option<Encoded>
+        ensures bytes { IfSome result (λ e. e.bytes.items ≡ front.now ++ M.codec.bytes self.old.snap.state) }
+        ensures fits { IfSome result (λ e. M.codec.fits self.old.snap.state) }
+        ensures sum { IfSome result (λ e. e.sum ≡ sum_of before e.bytes.items) }
+        ensures same { self.new ≡ self.old }
+    {
+        if !self.late.is_empty() {
+            return None;
+        }
+        self.snapshot.take_encoded(before, front)
     }
 
     /// Applies so many late entries to the snapshot's state, at most. Answers whether more of them are left.
@@ -197,14 +288,11 @@ impl<M: Machine> States<M> {
     pub(crate) fn copy_noted(&self) -> Result<Option<Packed<M>>, AllocError>
         ensures { IfOk result (λ copied. copied ≡ self.now.noted) }
     {
-        let Some(Note { summary, state }) = &self.note else {
+        let Some(note) = &self.note else {
             return Ok(None);
         };
-        let state = match state {
-            Some(state) => state.copy()?,
-            None => copy_first(&self.base, &self.snapshot, &self.late, &self.first)?,
-        };
-        Ok(Some(Packed::with_state(summary.copy()?, state)))
+        let state = note.copy_state(&self.base, &self.snapshot, &self.late, &self.first)?;
+        Ok(Some(Packed::with_state(note.summary.copy()?, state)))
     }
 
     /// A copy of what was applied.
@@ -268,7 +356,7 @@ impl<M: Machine> States<M> {
         ensures { OnOk result (self.new ≡ record self.old { snap = built }) }
     {
         fold_late(&mut self.late, &mut self.snapshot)?;
-        let old = mem::replace(&mut self.snapshot, built);
+        let old = mem::replace(&mut self.snapshot, Encodable::new(built));
         if self.base.is_none() {
             self.base = Some(old.into_state());
         }
@@ -288,14 +376,14 @@ impl<M: Machine> States<M> {
             let built = Packed::with_state(summary, state.copy()?);
             return self.keep(built);
         }
-        fold_late(&mut self.late, &mut self.snapshot)?;
-        if let Some(state) = self.base.take() {
-            self.snapshot.take_state(state);
-        }
-        self.snapshot.take_summary(summary);
+        take_noted(
+            summary,
+            self.base.take(),
+            &mut self.late,
+            &mut self.snapshot,
+        );
         let first = mem::replace(&mut self.first, Vec::new(*self.late.allocator()));
-        self.late = VecDeque::from_vec(first);
-        Ok(())
+        append_late(&mut self.late, first)
     }
 
     /// Takes this for the snapshot, and for what was applied.
@@ -304,7 +392,7 @@ impl<M: Machine> States<M> {
     {
         let applied = brought.summary().copy()?;
         fold_late(&mut self.late, &mut self.snapshot)?;
-        let old = mem::replace(&mut self.snapshot, brought).into_state();
+        let old = mem::replace(&mut self.snapshot, Encodable::new(brought)).into_state();
         let base = self.base.take().unwrap_or(old);
         if let Some(note) = self.note.take() {
             self.note = Some(note.whole(base, &self.first)?);

@@ -1,6 +1,6 @@
 //! What a node keeps when it stops.
 
-ghost use Rattle.std.specs.Prelude.{◌≡◌, IfOk, IsTrue, None, OnOk, Some, fold, length};
+ghost use Rattle.std.specs.Prelude.{◌≡◌, ◌++◌, IfOk, IfSome, IsTrue, None, OnOk, Some, fold, length};
 ghost use Rattle.std.specs.BTreeMap.{is_at};
 ghost use Rattle.std.specs.Map.{lookup, values_of};
 ghost use Rattle.std.specs.Option.{option_copied, option_map};
@@ -10,8 +10,10 @@ ghost use Rattle.raft_store.specs.Entries.{entry_meaning};
 ghost use Rattle.raft_store.specs.Starting.{entries_of};
 ghost use Rattle.raft_store.specs.Store.{between, no_store, put};
 ghost use Rattle.proof_packed_stores.specs.Stores.{packed_due, packed_exec, packed_exec_payload, packed_keep_snapshot, packed_store, with_entries};
+ghost use Rattle.raft_frames.specs.Format.{sum_of};
 ghost use Rattle.raft_packed.specs.Kept.{IsNamedByEnd, folded, is_longer, kept_if_noted, summary_of};
 
+use crate::encoding::Encoded;
 use crate::error::PackedError;
 use crate::log::{apply_due, copy_past, cut_from, drop_upto, insert_all};
 use crate::machine::Machine;
@@ -25,6 +27,7 @@ use raft_store::{Entry, WorldConfig};
 use std::alloc::{AllocError, Global};
 use std::collections::BTreeMap;
 use std::marker::Model;
+use std::num::NonZeroUsize;
 
 /// What a node keeps when it stops: its vote, its log with the last purged id, its snapshot, the saved committed id, and what its state
 /// machine has applied. Beside it stands what a node that runs has noted for the next snapshot.
@@ -181,6 +184,43 @@ impl<M: Machine> PackedStore<M> {
         ensures { IfOk result (λ copied. copied ≡ self.now.store.snap) }
     {
         self.states.copy_snapshot()
+    }
+
+    /// A copy of the snapshot. Its late entries are applied before, not to the copy and then once more to what it shares. Out of memory, nothing
+    /// is promised of the store.
+    pub fn share_snapshot(&mut self) -> Result<Packed<M>, AllocError>
+        ensures copied { IfOk result (λ copied. copied ≡ self.old.store.snap) }
+        ensures same { OnOk result (self.new ≡ self.old) }
+    {
+        self.states.share_snapshot()
+    }
+
+    /// Encodes the next bytes of the snapshot's state, some `most` of them, behind a front, as the payload of a frame behind one with the sum
+    /// `before`; once all are there it sums them, as many at a time. There is room for `room` bytes at first. Answers whether more is left to be
+    /// done. It begins anew with another front or sum before, and once the state has changed. While entries are late (`fold_some`) it does
+    /// nothing, and answers true; if the payload is too long for a frame it does nothing more, and answers false. Out of memory, what was encoded
+    /// is dropped.
+    pub fn encode_some(
+        &mut self,
+        before: u32,
+        front: &[u8],
+        room: usize,
+        most: NonZeroUsize,
+    ) -> Result<bool, AllocError>
+        ensures { self.new ≡ self.old }
+    {
+        self.states.encode_some(before, front, room, most)
+    }
+
+    /// The front and the bytes of the snapshot's state behind it, with the sum of a frame that has them behind one with the sum `before`, if all
+    /// of it is encoded and summed ([`PackedStore::encode_some`]): they are given away. None while entries are late.
+    pub fn take_encoded(&mut self, before: u32, front: &[u8]) -> Option<Encoded>
+        ensures bytes { IfSome result (λ e. e.bytes.items ≡ front.now ++ M.codec.bytes self.old.store.snap.state) }
+        ensures fits { IfSome result (λ e. M.codec.fits self.old.store.snap.state) }
+        ensures sum { IfSome result (λ e. e.sum ≡ sum_of before e.bytes.items) }
+        ensures same { self.new ≡ self.old }
+    {
+        self.states.take_encoded(before, front)
     }
 
     /// Makes a part of the snapshot's state, for which nothing waits: applies so many of its entries to it, at most. Answers whether more of

@@ -107,6 +107,20 @@ impl Summary {
         self.last_id
     }
 
+    /// The membership before the last one, without an id if there is none.
+    pub fn before(&self) -> &StoredMembership<u64, ()>
+        ensures { result.now ≡ self.now.before }
+    {
+        &self.before
+    }
+
+    /// The last membership, without an id if there is none.
+    pub fn effective(&self) -> &StoredMembership<u64, ()>
+        ensures { result.now ≡ self.now.effective }
+    {
+        &self.effective
+    }
+
     /// A copy.
     pub(crate) fn copy(&self) -> Result<Self, AllocError>
         ensures { IfOk result (λ copied. copied ≡ self.now) }

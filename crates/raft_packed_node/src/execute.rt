@@ -92,12 +92,13 @@ fn heartbeat(
 fn replication<M: Machine>(
     turn: &Turn,
     session_id: &ReplicationSessionId<u64>,
-    store: &PackedStore<M>,
+    store: &mut PackedStore<M>,
     req: &Inflight<u64>,
 ) -> Result<(Body, Option<Packed<M>>), AllocError>
-    ensures body { IfOk result (λ sent. sent.0 ≡ (packed_replication M.application turn.now session_id.now store.now.store req.now).0) }
+    ensures body { IfOk result (λ sent. sent.0 ≡ (packed_replication M.application turn.now session_id.now store.old.store req.now).0) }
     ensures brought { IfOk result (λ sent. brought_by M.application sent.1
-        ≡ (packed_replication M.application turn.now session_id.now store.now.store req.now).1) }
+        ≡ (packed_replication M.application turn.now session_id.now store.old.store req.now).1) }
+    ensures store { OnOk result (store.new ≡ store.old) }
 {
     let alloc = store.allocator();
     match req {
@@ -121,7 +122,7 @@ fn replication<M: Machine>(
                 origin: origin(turn, session_id, RequestId::Snapshot { id: *id }),
                 snapshot,
             };
-            Ok((body, Some(store.copy_snapshot()?)))
+            Ok((body, Some(store.share_snapshot()?)))
         }
     }
 }
@@ -130,16 +131,17 @@ fn replication<M: Machine>(
 fn replicate<M: Machine>(
     turn: &Turn,
     session_id: &ReplicationSessionId<u64>,
-    store: &PackedStore<M>,
+    store: &mut PackedStore<M>,
     target: u64,
     req: &Inflight<u64>,
     records: &mut Outbox<M>,
 ) -> Result<(), AllocError>
-    ensures { OnOk result (records.new ≡ record records.old {
+    ensures records { OnOk result (records.new ≡ record records.old {
       bag = records.old.bag
           ++ packed_to_each M.application turn.now.id (target ∷ [])
-          (packed_replication M.application turn.now session_id.now store.now.store req.now);
+          (packed_replication M.application turn.now session_id.now store.old.store req.now);
     }) }
+    ensures store { OnOk result (store.new ≡ store.old) }
 {
     let (body, snapshot) = replication(turn, session_id, store, req)?;
     let message = Message {

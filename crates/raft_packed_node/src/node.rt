@@ -1,6 +1,6 @@
 //! A node whose snapshot is a state, and events at it.
 
-ghost use Rattle.std.specs.Prelude.{◌≡◌, IfErr, IfOk, IsTrue, None, OnOk, false, true};
+ghost use Rattle.std.specs.Prelude.{◌≡◌, ◌++◌, IfErr, IfOk, IfSome, IsTrue, None, OnOk, false, true};
 ghost use Rattle.std.specs.List.{fold};
 ghost use Rattle.std.specs.Option.{option_copied, option_map};
 ghost use Rattle.std.specs.Ordering.{nat_cmp};
@@ -15,6 +15,7 @@ ghost use Rattle.proof_packed.specs.Nodes.{packed_restart, packed_with_answer, p
 ghost use Rattle.proof_packed.specs.Records.{packed_commands_at};
 ghost use Rattle.proof_packed.specs.Nodes.{packed_new_node};
 ghost use Rattle.raft_packed.specs.Kept.{IsNamedByEnd, summary_of};
+ghost use Rattle.raft_packed.specs.raft_frames.Format.{sum_of};
 ghost use Rattle.raft_packed_node.specs.Builds.{packed_kept_early};
 ghost use Rattle.raft_packed_node.specs.Effects.{all_executed, brought_by, scene};
 ghost use Rattle.raft_packed_node.specs.Held.{IsPackedAtRest, PackedMayCall, PackedNotedFits, RunsOut, is_start};
@@ -40,12 +41,13 @@ use raft_node::act::{Act, skip_stopped};
 use raft_node::given::Given;
 use raft_node::node::Streams;
 use raft_node::watch::Watch;
-use raft_packed::{Machine, Packed, PackedError, PackedStore, Summary};
+use raft_packed::{Encoded, Machine, Packed, PackedError, PackedStore, Summary};
 use raft_schedule::event::{Event, Outcome, SkipReason, Start};
 use raft_state::RaftState;
 use raft_store::WorldConfig;
 use std::alloc::{AllocError, Global};
 use std::marker::Model;
+use std::num::NonZeroUsize;
 
 /// What a node has while it runs, and loses when it stops, beside what is noted for the next snapshot.
 pub(crate) struct Running {
@@ -225,6 +227,29 @@ impl<M: Machine> Node<M> {
         ensures { OnOk result (self.new ≡ self.old) }
     {
         self.store.fold_some(most)
+    }
+
+    /// Encodes or sums the next bytes of the snapshot's state: [`PackedStore::encode_some`].
+    pub fn encode_some(
+        &mut self,
+        before: u32,
+        front: &[u8],
+        room: usize,
+        most: NonZeroUsize,
+    ) -> Result<bool, AllocError>
+        ensures { self.new ≡ self.old }
+    {
+        self.store.encode_some(before, front, room, most)
+    }
+
+    /// Gives away what is encoded of the snapshot's state, if all of it is, and summed: [`PackedStore::take_encoded`].
+    pub fn take_encoded(&mut self, before: u32, front: &[u8]) -> Option<Encoded>
+        ensures bytes { IfSome result (λ e. e.bytes.items ≡ front.now ++ M.codec.bytes self.old.store.snap.state) }
+        ensures fits { IfSome result (λ e. M.codec.fits self.old.store.snap.state) }
+        ensures sum { IfSome result (λ e. e.sum ≡ sum_of before e.bytes.items) }
+        ensures same { self.new ≡ self.old }
+    {
+        self.store.take_encoded(before, front)
     }
 
     /// The greatest moment of the node's events, in milliseconds.

@@ -5,6 +5,10 @@
 //! - `note`: notes what is applied, as for a build or to be sent; `keep`: keeps it as a snapshot; `install`: installs it
 //! - `mark`: the store itself notes what it has applied; `keep mark`: it keeps that as a snapshot; `drop mark`: it forgets it
 //! - `fold NUMBER`: applies so many late entries to the snapshot's state, and prints whether more are left
+//! - `share`: prints the snapshot, as one that is sent
+//! - `encode SUM FRONT COUNT`: encodes or sums some bytes more of the snapshot's state behind a front (a word), for a frame behind one with that
+//!   sum, and prints whether more is left to be done; `take SUM FRONT`: prints of what is encoded and summed how many bytes they are, the last,
+//!   and the sum, both as hexadecimal numbers
 //! - `other`: another, new store, from which what is noted may be installed
 //! - `log`, `snapshot`, `applied`, `marked`: print what is kept
 //! - `range ID ID`: prints how many entries stand above an id up to another; `none` is no id
@@ -15,12 +19,13 @@ use crate::{nodes, show};
 use anyhow::{Context, Result, bail};
 use raft_command::sm::{self, CommandPayload};
 use raft_command::{Command, Snapshot};
-use raft_packed::{Packed, PackedStore};
+use raft_packed::{Encoded, Packed, PackedStore};
 use raft_schedule::event::Start;
 use raft_state::{Items, LogId, Membership, Vote};
 use raft_store::{Entry, Payload, Value, WorldConfig};
 use std::alloc::Global;
 use std::mem;
+use std::num::NonZeroUsize;
 use test_words::text::put_line;
 use test_words::words::{log_id, number};
 
@@ -157,15 +162,50 @@ fn mark(store: &mut PackedStore<Digest>, words: &[&str]) -> Result<()> {
     }
 }
 
-/// Applies so many late entries to the snapshot's state.
-fn fold(store: &mut PackedStore<Digest>, word: &str, given: &mut Vec<u8>) -> Result<()> {
-    let is_more = store.fold_some(number(word)? as usize)?;
+fn put_left(is_more: bool, given: &mut Vec<u8>) -> Result<()> {
     let left = if is_more {
         "more are left"
     } else {
         "none is left"
     };
     put_line(format_args!("{left}"), given)
+}
+
+/// Applies so many late entries to the snapshot's state.
+fn fold(store: &mut PackedStore<Digest>, word: &str, given: &mut Vec<u8>) -> Result<()> {
+    let is_more = store.fold_some(number(word)? as usize)?;
+    put_left(is_more, given)
+}
+
+/// Encodes or sums some bytes more of the snapshot's state.
+fn encode(
+    store: &mut PackedStore<Digest>,
+    before: &str,
+    front: &str,
+    count: &str,
+    given: &mut Vec<u8>,
+) -> Result<()> {
+    let most = NonZeroUsize::new(number(count)? as usize).context("no bytes")?;
+    let is_more = store.encode_some(before.parse()?, front.as_bytes(), 0, most)?;
+    put_left(is_more, given)
+}
+
+/// Takes what is encoded and summed of the snapshot's state.
+fn take_encoded(
+    store: &mut PackedStore<Digest>,
+    before: &str,
+    front: &str,
+    given: &mut Vec<u8>,
+) -> Result<()> {
+    let Some(Encoded { bytes, sum }) = store.take_encoded(before.parse()?, front.as_bytes()) else {
+        return put_line("nothing", given);
+    };
+    let len = bytes.len();
+    let last = bytes.last().copied().unwrap_or(0);
+    put_line(
+        format_args!("{len} bytes, last {last:02x}, sum {sum:08x}"),
+        given,
+    )
 }
 
 /// How many entries a range has.
@@ -219,6 +259,9 @@ fn step(alloc: Global, desk: &mut Desk, words: &[&str], given: &mut Vec<u8>) -> 
         }
         [word @ ("log" | "snapshot" | "applied" | "marked")] => question(&desk.store, word, given),
         ["fold", word] => fold(&mut desk.store, word, given),
+        ["share"] => show::put_packed("snapshot", &desk.store.share_snapshot()?, given),
+        ["encode", before, front, count] => { encode(&mut desk.store, before, front, count, given) }
+        ["take", before, front] => take_encoded(&mut desk.store, before, front, given),
         ["start", word] => start(alloc, desk, word, given),
         ["range", prev, last] => range(&desk.store, prev, last, given),
         _ => execute(alloc, desk, words),
