@@ -9,7 +9,7 @@ use Rattle.raft_packed_wire.specs.declared.record.PackedRecord.{PackedRecord}
 use Rattle.raft_packed_wire.specs.Checkpoints.{checkpoint}
 use Rattle.raft_packed_wire.specs.Records.{packed_on_disk}
 use Rattle.proof_packed_servers.specs.Servers.{PackedAction, PackedAllMayAct, PackedCluster, PackedDisk, PackedServer, PackedWaitingStep}
-use Rattle.proof_packed_servers.specs.Servers.{packed_after_actions, packed_new_cluster, packed_new_disk, packed_with_record, packed_with_server}
+use Rattle.proof_packed_servers.specs.Servers.{packed_after_actions, packed_new_cluster, packed_new_disk, packed_with_records, packed_with_server}
 
 module _ {S : Type 0} where
   -- the same servers, with these disks
@@ -34,7 +34,7 @@ module _ {S : Type 0} (app : Application S) where
 
   -- a server with a new log, which begins with a checkpoint of its node's store
   abbrev pub packed_checkpointed : PackedServer S → PackedServer S
-  packed_checkpointed s = record s { disk = packed_with_record app (checkpoint s.reserved s.node.store) (packed_new_disk app) }
+  packed_checkpointed s = record s { disk = packed_with_records app (checkpoint s.reserved s.node.store) (packed_new_disk app) }
 
 -- clusters that are alike stay so, whatever they do: so no client, and no other server, is told anything else
 abbrev pub StayAlike : Type 0 → Type 0

@@ -1,16 +1,35 @@
 -- What is kept of entries, as bytes in pieces.
 use Rattle.std.specs.Prelude.{ℕ, ◌≡◌, List, ◌++◌}
 use Rattle.raft_codec.specs.Codec.{Codec}
-use Rattle.raft_packed_node.specs.proof_packed.Stores.{Packed}
+use Rattle.raft_packed_node.specs.proof_packed.Stores.{Packed, PackedStore}
+use Rattle.raft_packed_node.specs.raft_packed.Kept.{SummaryView, with_state}
 use Rattle.raft_packed_node.specs.raft_packed.declared.place.Place.{Place}
 use Rattle.raft_packed_node.specs.raft_packed.declared.place.Place.TheVariants.{End}
 use Rattle.raft_packed_wire.specs.declared.packed.PackedPlace.{PackedPlace}
 use Rattle.raft_packed_wire.specs.declared.packed.PackedPlace.TheVariants.{Front, State}
+use Rattle.raft_packed_wire.specs.declared.record.PackedChange.TheVariants.{Install}
+use Rattle.raft_packed_wire.specs.Checkpoints.{named_snapshot}
+use Rattle.raft_packed_wire.specs.Records.{named_logged, packed_change}
 use Rattle.raft_packed_wire.specs.Values.{kept}
 
--- what stands before the state was appended
-abbrev pub WritesPackedFront : {S : Type 0} → Codec S → Packed S → List ℕ → List ℕ → Type 0
-WritesPackedFront c p old new = (c.fits p.state → (kept c).fits p) × (new ++ c.bytes p.state ≡ old ++ (kept c).bytes p)
+module _ {S : Type 0} (c : Codec S) where
+  -- what stands before a state in a value with it was appended
+  abbrev pub WritesFront : {X : Type 0} → Codec X → X → S → List ℕ → List ℕ → Type 0
+  WritesFront whole x state old new = (c.fits state → whole.fits x) × (new ++ c.bytes state ≡ old ++ whole.bytes x)
+
+  -- in what is kept of entries: whatever their state, and with this one
+  abbrev pub WritesSummary : SummaryView → List ℕ → List ℕ → Type 0
+  WritesSummary k old new = (state : S) → WritesFront (kept c) (with_state k state) state old new
+
+  abbrev pub WritesPackedFront : Packed S → List ℕ → List ℕ → Type 0
+  WritesPackedFront p old new = WritesFront (kept c) p p.state old new
+
+  -- in that a store's snapshot is installed, and in its record
+  abbrev pub WritesInstallFront : PackedStore S → List ℕ → List ℕ → Type 0
+  WritesInstallFront t old new = WritesFront (packed_change (kept c)) (Install t.meta t.snap) t.snap.state old new
+
+  abbrev pub WritesSnapshotFront : PackedStore S → List ℕ → List ℕ → Type 0
+  WritesSnapshotFront t old new = WritesFront (named_logged (kept c)) (named_snapshot t) t.snap.state old new
 
 -- by what is left of a state at a place of its own, and whether that can be written
 module _ {S : Type 0} (c : Codec S) (left : S → Place → List ℕ) (fits : S → Place → Type 0) where

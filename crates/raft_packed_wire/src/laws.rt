@@ -23,8 +23,8 @@ pub fn packs_replays<S>()
     ensures { PacksReplays S }
 {}
 
-/// For each state machine with states `S`: a checkpoint of a store whose entries stand at their indexes, as each of a run's do, makes of a new
-/// store one that is the same on disk.
+/// For each state machine with states `S`: a checkpoint of a store whose entries stand at their indexes, as each of a run's do, is two records,
+/// which make of a new store, one after the other, one that is the same on disk.
 pub fn checkpoints_restore<S>()
     ensures { CheckpointsRestore S }
 {}

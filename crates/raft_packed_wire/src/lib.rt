@@ -16,7 +16,7 @@ mod record;
 mod replay;
 mod step;
 
-pub use checkpoint::write_checkpoint;
+pub use checkpoint::{write_rest, write_snapshot, write_snapshot_front};
 pub use laws::{checkpoints_restore, packs_replays, pieces_are_whole, records_are_read_back};
 pub use named::Named;
 pub use packed::{PackedPlace, read_packed, write_packed, write_packed_some};

@@ -4,11 +4,11 @@ ghost use Rattle.std.specs.Prelude.{◌≡◌, ◌↔◌, IfOk, IsTrue, OnOk};
 ghost use Rattle.raft_codec.specs.Codec.{Reads, Writes};
 ghost use Rattle.raft_packed_node.specs.raft_packed.declared.place.Place.TheVariants.{End};
 ghost use Rattle.raft_packed_wire.specs.declared.packed.PackedPlace.TheVariants.{State};
-ghost use Rattle.raft_packed_wire.specs.Pieces.{PackedGoesOn, WritesPackedFront};
+ghost use Rattle.raft_packed_wire.specs.Pieces.{PackedGoesOn, WritesPackedFront, WritesSummary};
 ghost use Rattle.raft_packed_wire.specs.Values.{kept};
 
 use raft_codec::{DecodeError, Reader};
-use raft_packed_node::raft_packed::{Machine, Packed, Place};
+use raft_packed_node::raft_packed::{Machine, Packed, Place, Summary};
 use raft_state::{LogId, StoredMembership};
 use raft_wire::Wire;
 use std::alloc::AllocError;
@@ -38,13 +38,23 @@ impl PackedPlace {
 
 /// Appends how many the entries are, their last id, the membership before the last, and the last one.
 #[tactic(auto, unfolding(crate::specs::Values::kept))]
+pub(crate) fn write_summary<M: Machine>(
+    out: &mut Vec<u8>,
+    summary: &Summary,
+) -> Result<(), AllocError>
+    ensures { OnOk result (WritesSummary M.codec summary.now out.old.items out.new.items) }
+{
+    summary.end().write(out)?;
+    summary.last_id().write(out)?;
+    summary.before().write(out)?;
+    summary.effective().write(out)
+}
+
+/// Appends what stands before the state.
 fn write_front<M: Machine>(out: &mut Vec<u8>, packed: &Packed<M>) -> Result<(), AllocError>
     ensures { OnOk result (WritesPackedFront M.codec packed.now out.old.items out.new.items) }
 {
-    packed.end().write(out)?;
-    packed.last_id().write(out)?;
-    packed.before().write(out)?;
-    packed.effective().write(out)
+    write_summary::<M>(out, packed.summary())
 }
 
 /// Appends how many the entries are, their last id, the membership before the last, the last one, and the state.
