@@ -1,30 +1,31 @@
 -- A server goes on with a new log.
-use Rattle.std.proofs.Common.{ℕ, ◌≡◌, ◌≤◌, ◌∙◌, ◌++◌, List, [], ◌∷◌, length, refl, sym, ap, subst, inr}
+use Rattle.std.proofs.Common.{ℕ, ◌≡◌, ◌≤◌, ◌∙◌, ◌++◌, List, [], ◌∷◌, length, refl, sym, ap, subst, append_assoc, inr}
 use Rattle.std.specs.Prelude.{Err, IfErr, IfOk, None, Ok, Option, Result, Some, map}
 use Rattle.std.proofs.lemmas.List.{append-nil}
 use Rattle.raft_frames.specs.declared.header.LogId.{LogId}
 use Rattle.raft_frames.specs.declared.tail.Tail.{Tail}
-use Rattle.raft_frames.specs.Format.{after_all, frame, header, start}
-use Rattle.raft_frames.specs.Laws.{IsPayload, file}
+use Rattle.raft_frames.specs.Format.{after, after_all, frame, header, start}
+use Rattle.raft_frames.specs.Laws.{IsPayload}
 use Rattle.raft_codec.specs.Codec.{Codec, IsCodec}
 use Rattle.proof_logs.specs.Batches.{IsBatchOf, bytes_of, file_of}
-use Rattle.raft_packed_server.specs.Fits.{FitsAt}
+use Rattle.raft_packed_server.specs.Fits.{FitFrom, FitsAt}
 use Rattle.proof_packed.specs.Stores.{Application}
-use Rattle.raft_packed_wire.specs.Checkpoints.{checkpoint}
+use Rattle.raft_packed_wire.specs.Checkpoints.{checkpoint, named_rest, named_snapshot}
+use Rattle.raft_packed_wire.specs.declared.record.NamedRecord.{NamedRecord}
 use Rattle.raft_packed_wire.specs.Named.{StandFor}
 use Rattle.raft_packed_wire.specs.Records.{packed_on_disk}
 use Rattle.raft_packed_wire.proofs.Checkpoints.{order_restores}
 use Rattle.raft_packed_wire.proofs.Standing.{none_stand}
 use Rattle.proof_packed_servers.specs.Checkpoints.{packed_checkpointed, packed_left_by}
-use Rattle.proof_packed_servers.specs.Servers.{PackedDisk, PackedServer, packed_new_disk, packed_with_record, packed_with_records}
-use Rattle.raft_packed_server.specs.declared.batch.Written.{Written}
+use Rattle.proof_packed_servers.specs.Servers.{PackedDisk, PackedServer, packed_new_disk, packed_with_records}
+use Rattle.raft_packed_server.specs.declared.batch.NewLog.{NewLog}
 use Rattle.raft_packed_server.specs.declared.serving.Serving.{Serving}
-use Rattle.raft_packed_server.specs.Checkpoints.{IsClear, IsNewLog, NewLogsAreGivenUp, NewLogsGoOn, NewLogsTakeOver, behind_first}
-use Rattle.raft_packed_server.specs.Checkpoints.{first_batch, with_log_at, with_next_log}
+use Rattle.raft_packed_server.specs.Checkpoints.{IsClear, IsFirstFrame, IsNewLog, NewLogsAreGivenUp, NewLogsGoOn, NewLogsTakeOver, behind_first}
+use Rattle.raft_packed_server.specs.Checkpoints.{first_batches, with_log_at, with_next_log}
 use Rattle.raft_packed_server.specs.Laws.{IsAtEnd}
 use Rattle.raft_packed_server.specs.Logs.{left_by, logged_by}
 use Rattle.raft_packed_server.specs.Represents.{AreUnwritten, AreWaiting, Stands}
-use Rattle.raft_packed_server.proofs.Coded.{some_bytes}
+use Rattle.raft_packed_server.proofs.Coded.{logged_by_is, some_bytes}
 use Rattle.raft_packed_server.proofs.Waiting.{stands_placed, unwritten}
 
 pub new_logs_go_on : {S : Type 0} (app : Application S) (c : Codec S) → NewLogsGoOn app c
@@ -42,16 +43,16 @@ new_logs_go_on {S = S} app c log s v w stands new = record {
     ordered = stands.ordered;
   };
   has = record {
-    writable = (new.batch, tt);
-    records = checkpoint v.reserved v.node.store ∷ [];
-    stand = (record { moment = refl; began = tt; changes = refl }, tt);
+    writable = new.batches;
+    records = checkpoint v.reserved v.node.store;
+    stand = (record { moment = refl; began = tt; changes = refl }, (record { moment = refl; began = tt; changes = refl }, tt));
     disk = sym made;
   };
   ends = record { file = new.bytes; next = refl };
 }
   where
     there : PackedDisk S
-    there = packed_with_record app (checkpoint s.reserved s.node.store) (packed_new_disk app)
+    there = packed_with_records app (checkpoint s.reserved s.node.store) (packed_new_disk app)
 
     are : AreUnwritten app s.disk v s.waiting
     are = unwritten app s v new.clear.0 stands
@@ -63,9 +64,9 @@ new_logs_go_on {S = S} app c log s v w stands new = record {
     empty =
         subst (StandFor app there.store v.records) (sym none_left) (subst (λ rs. StandFor app there.store rs []) (sym new.clear.1) tt)
 
-    made : packed_with_record app (checkpoint v.reserved v.node.store) (packed_new_disk app)
-        ≡ packed_with_record app (checkpoint s.reserved s.node.store) (packed_new_disk app)
-    made = λ i. packed_with_record app (checkpoint (stands.reserved i) (stands.node i).store) (packed_new_disk app)
+    made : packed_with_records app (checkpoint v.reserved v.node.store) (packed_new_disk app)
+        ≡ packed_with_records app (checkpoint s.reserved s.node.store) (packed_new_disk app)
+    made = λ i. packed_with_records app (checkpoint (stands.reserved i) (stands.node i).store) (packed_new_disk app)
 
 some_same : {A : Type 0} (x y : A) → ◌≡◌ {A = Option A} (Some x) (Some y) → x ≡ y
 some_same x y is = cc
@@ -91,41 +92,74 @@ checkpoint_alike app s v stands none =
 
 -- ---- its bytes
 
--- a header, and the frame of a payload behind it
-pub log_bytes : (log : LogId) (payload bytes new : List ℕ) (tail : Tail) → bytes ≡ header log → tail ≡ start log → new ≡ bytes ++ frame tail payload
-    → new ≡ file log (payload ∷ [])
-log_bytes log payload bytes new tail head place wrote =
-    wrote ∙ ((λ i. head i ++ frame (place i) payload) ∙ ap (λ x. header log ++ x) (sym (append-nil (frame (start log) payload))))
-
 -- a record's bytes, alone in a payload
 pub one_record : (old new bytes : List ℕ) → old ≡ [] → new ≡ old ++ bytes → new ≡ bytes ++ []
 one_record old new bytes none wrote = wrote ∙ (ap (λ l. l ++ bytes) none ∙ sym (append-nil bytes))
 
--- a new log whose payload has these bytes
-module _ {R L E : Type 0} (c : Codec R) (inverse : IsCodec c) (r : R) (fits : c.fits r) (payload : List ℕ) (is : payload ≡ bytes_of c (r ∷ []))
-    (result : Result L E) where
-  pub batch_there : IfOk result (λ log. IsPayload payload) → IfOk result (λ log. IsBatchOf c (r ∷ []))
-  batch_there there = go result there
-    where
-      go : (o : Result L E) → IfOk o (λ log. IsPayload payload) → IfOk o (λ log. IsBatchOf c (r ∷ []))
-      go (Ok log) h = record { fits = (fits, tt); payload = subst IsPayload is h }
-      go (Err e) h = tt
+-- what stands before a state, and the state, are a record alone in a payload
+pub one_front : (old new state bytes : List ℕ) → old ≡ [] → new ++ state ≡ old ++ bytes → new ++ state ≡ bytes ++ []
+one_front old new state bytes none wrote = one_record old (new ++ state) bytes none wrote
 
-  pub fits_there : (log : LogId) (out : E)
-      → (1 ≤ length payload → FitsAt (start log) payload → IfErr result (λ e. e ≡ out))
-      → FitsAt (start log) (bytes_of c (r ∷ [])) → IfErr result (λ e. e ≡ out)
-  fits_there log out h fit =
-      h (subst (λ p. 1 ≤ length p) (sym is) (some_bytes c inverse (r ∷ []) (λ e. cc))) (subst (FitsAt (start log)) (sym is) fit)
+-- a first frame whose payload is left, and one of which nothing is left
+pub first_left : (log : LogId) (payload head front : List ℕ) (place tail : Tail) → IsPayload payload → head ≡ header log → place ≡ start log
+    → front ++ payload ≡ head ++ frame place payload → tail ≡ after place payload → IsFirstFrame log payload front payload tail
+first_left log payload head front place tail there is at wrote behind = record {
+  fits = there;
+  bytes = wrote ∙ (λ i. is i ++ frame (at i) payload);
+  place = behind ∙ ap (λ t. after t payload) at;
+}
+
+pub first_whole : (log : LogId) (payload head front : List ℕ) (place tail : Tail) → IsPayload payload → head ≡ header log → place ≡ start log
+    → front ≡ head ++ frame place payload → tail ≡ after place payload → IsFirstFrame log payload front [] tail
+first_whole log payload head front place tail there is at wrote behind = record {
+  fits = there;
+  bytes = append-nil front ∙ (wrote ∙ (λ i. is i ++ frame (at i) payload));
+  place = behind ∙ ap (λ t. after t payload) at;
+}
+
+-- a record that fits has some bytes
+pub some_record : {S : Type 0} (c : Codec S) → IsCodec c → (r : NamedRecord S) → 1 ≤ length (bytes_of (logged_by c) (r ∷ []))
+some_record c is r = some_bytes (logged_by c) (logged_by_is c is) (r ∷ []) (λ e. cc)
+
+-- the pieces of a new log, and two frames behind its header
+pieces_joined : (front snapshot rest head first second : List ℕ) → front ++ snapshot ≡ head ++ first → rest ≡ [] ++ second
+    → front ++ (snapshot ++ rest) ≡ head ++ (first ++ (second ++ []))
+pieces_joined front snapshot rest head first second one two =
+    sym (append_assoc front snapshot rest)
+    ∙ ((λ i. one i ++ two i) ∙ (append_assoc head first second ∙ ap (λ l. head ++ (first ++ l)) (sym (append-nil second))))
 
 -- what is handed out, and what is left of the server, are as the definition says
-pub begun : {S : Type 0} (c : Codec S) (log : LogId) (v : Serving S) (w : Written) (tail : Tail) → IsClear v
-    → IsBatchOf (logged_by c) (first_batch v)
-    → w.bytes.items ≡ file_of (logged_by c) log (first_batch v ∷ [])
-    → tail ≡ behind_first c log v
+pub begun : {S : Type 0} (c : Codec S) (log : LogId) (v : Serving S) (w : NewLog) (payload : List ℕ) (first tail : Tail) → IsClear v
+    → IsFirstFrame log (bytes_of (logged_by c) (named_snapshot v.node.store ∷ [])) w.front.items w.snapshot.items first
+    → (logged_by c).fits (named_snapshot v.node.store)
+    → payload ≡ bytes_of (logged_by c) (named_rest v.reserved v.node.store ∷ [])
+    → (logged_by c).fits (named_rest v.reserved v.node.store)
+    → IsPayload payload
+    → w.rest.items ≡ [] ++ frame first payload
+    → tail ≡ after first payload
     → w.end ≡ tail.position
-    → w.next ≡ None
     → IsNewLog c log v w × ◌≡◌ {A = Option (Serving S)} (Some (record v { next = Some tail })) (Some (with_next_log c log v))
-begun c log v w tail clear batch bytes place end alone = (
-  record { clear = clear; batch = batch; bytes = bytes; end = end ∙ ap (λ (t : Tail). t.position) place; alone = alone },
+begun {S = S} c log v w payload first tail clear one fits is rest_fits there wrote behind end = (
+  record {
+    clear = clear;
+    batches = (record { fits = (fits, tt); payload = one.fits }, (record { fits = (rest_fits, tt); payload = subst IsPayload is there }, tt));
+    bytes =
+        pieces_joined w.front.items w.snapshot.items w.rest.items (header log) (frame (start log) p) (frame first payload) one.bytes wrote
+        ∙ (λ i. header log ++ (frame (start log) p ++ (frame (one.place i) (is i) ++ [])));
+    end = end ∙ ap (λ (t : Tail). t.position) place;
+  },
   λ i. Some (record v { next = Some (place i) }),
 )
+  where
+    p : List ℕ
+    p = bytes_of (logged_by c) (named_snapshot v.node.store ∷ [])
+
+    place : tail ≡ behind_first c log v
+    place = behind ∙ (λ i. after (one.place i) (is i))
+
+-- both frames fit: so the second does, behind the first
+pub second_fits : {S : Type 0} (c : Codec S) (log : LogId) (v : Serving S) (payload : List ℕ) (first : Tail)
+    → first ≡ after (start log) (bytes_of (logged_by c) (named_snapshot v.node.store ∷ []))
+    → payload ≡ bytes_of (logged_by c) (named_rest v.reserved v.node.store ∷ [])
+    → FitFrom (start log) (map (bytes_of (logged_by c)) (first_batches v)) → FitsAt first payload
+second_fits c log v payload first at is fit = subst (λ t. FitsAt t payload) (sym at) (subst (FitsAt _) (sym is) fit.1.0)

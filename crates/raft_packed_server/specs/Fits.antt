@@ -1,5 +1,6 @@
 -- When a call fails only if memory runs out, or the index behind the last entry that is applied has no 64 bits.
-use Rattle.std.specs.Prelude.{ℕ, ◌<◌, ◌≤◌, ◌+◌, ◌^◌, IfSome, List, Option, length}
+use Rattle.std.specs.Prelude.{ℕ, ◌<◌, ◌≤◌, ◌+◌, ◌^◌, IfSome, List, [], ◌∷◌, Option, length}
+use Rattle.raft_frames.specs.Format.{after}
 use Rattle.raft_frames.specs.declared.tail.Tail.{Tail}
 use Rattle.raft_frames.specs.declared.tail.TheConstants.{MAX_FRAME}
 use Rattle.raft_packed_wire.specs.raft_packed_node.Held.{RunsOut}
@@ -15,6 +16,11 @@ StepRunsOut _ = ⊥
 pub record FitsAt (tail : Tail) (payload : List ℕ) : Type 0 where
   pub short : length payload ≤ MAX_FRAME
   pub place : tail.position + (12 + length payload) < 2 ^ 64
+
+-- Payloads fit frames, one behind the other.
+abbrev pub FitFrom : Tail → List (List ℕ) → Type 0
+FitFrom tail [] = Unit {0}
+FitFrom tail (payload ∷ payloads) = FitsAt tail payload × FitFrom (after tail payload) payloads
 
 -- It fits at the end of the log, and at the end of the one that is on its way, if one is.
 pub record FitsBoth (tail : Tail) (next : Option Tail) (payload : List ℕ) : Type 0 where

@@ -14,6 +14,16 @@ pub struct Written {
     pub next: Option<Vec<u8>>,
 }
 
+/// The bytes of a new log: three pieces, of which each stands behind the one before. The second may be large.
+#[derive(Debug, Drop)]
+pub struct NewLog {
+    pub front: Vec<u8>,
+    pub snapshot: Vec<u8>,
+    pub rest: Vec<u8>,
+    /// Where they end, in bytes.
+    pub end: u64,
+}
+
 /// Steps whose records were handed out as one frame. Those of them that leave none wait for the others.
 #[derive(Drop)]
 pub struct Batch<M: Machine> {

@@ -13,9 +13,10 @@
 //!    what those behind them say that wait for no record. It is called after a sync, and if nothing was written, with
 //!    the position of the last sync: most steps change nothing on disk and leave no record.
 //!
-//! A log that has grown long is replaced, while it goes on: [`Server::begin_log`] gives the bytes of a new one that makes the same, for a file of
-//! its own, and [`Server::write`] from then on bytes for both. Once the new file has all of them on disk, [`Server::take_over`] gives it the old
-//! one's place; [`Server::give_up_log`], if it can't be written.
+//! A log that has grown long is replaced, while it goes on: [`Server::prepare_log`], call by call, encodes the state with which a new one begins;
+//! [`Server::begin_log`] gives the bytes of that one, which makes the same, for a file of its own, and [`Server::write`] from then on bytes for
+//! both. Once the new file has all of them on disk, [`Server::take_over`] gives it the old one's place; [`Server::give_up_log`], if it can't be
+//! written.
 //!
 //! After an error the server has stopped for good, and nothing leaves it any more: it is opened again on its log.
 #![tactic(auto)]
@@ -34,7 +35,7 @@ mod recovery;
 mod server;
 mod serving;
 
-pub use batch::{Batch, Said, Written};
+pub use batch::{Batch, NewLog, Said, Written};
 pub use error::{OpenError, ServerError};
 pub use laws::{new_logs_go_on, opens_after_a_crash, writes_go_on_with_the_log};
 pub use server::{Opened, Server};

@@ -3,7 +3,7 @@
 ghost use Rattle.std.specs.Prelude.{◌≡◌, ◌≢◌, ◌≤◌, ◌++◌, ◌∷◌, ◌↔◌, [], IfErr, IsTrue, OnOk, length};
 ghost use Rattle.raft_codec.specs.Codec.{Writes};
 ghost use Rattle.raft_frames.specs.declared.error.PushError.TheVariants.{OutOfMemory};
-ghost use Rattle.raft_frames.specs.Format.{after, frame};
+ghost use Rattle.raft_frames.specs.Format.{after, frame, sum_of};
 ghost use Rattle.raft_frames.specs.Laws.{IsPayload};
 ghost use Rattle.proof_logs.specs.Batches.{IsBatchOf, bytes_of};
 ghost use Rattle.raft_packed_server.specs.Fits.{FitsAt};
@@ -112,6 +112,22 @@ pub fn push_payload(tail: &mut Tail, payload: &[u8], out: &mut Vec<u8>) -> Resul
     ensures fits { 1 ≤ length payload.now → FitsAt tail.old payload.now → IfErr result (λ e. e ≡ OutOfMemory) }
 {
     tail.push(payload, out)
+}
+
+/// Writes what stands before this payload in a frame behind `out`, and goes on to the place behind the frame, whose sum is known.
+pub fn push_head(
+    tail: &mut Tail,
+    payload: &[u8],
+    sum: u32,
+    out: &mut Vec<u8>,
+) -> Result<(), PushError>
+    requires { sum ≡ sum_of tail.old.sum payload.now }
+    ensures payload { OnOk result (IsPayload payload.now) }
+    ensures frame { OnOk result (out.new.items ++ payload.now ≡ out.old.items ++ frame tail.old payload.now) }
+    ensures tail { OnOk result (tail.new ≡ after tail.old payload.now) }
+    ensures fits { 1 ≤ length payload.now → FitsAt tail.old payload.now → IfErr result (λ e. e ≡ OutOfMemory) }
+{
+    tail.push_head(payload, sum, out)
 }
 
 /// Appends the record of a step.

@@ -1,21 +1,21 @@
 //! A server.
 
-ghost use Rattle.std.specs.Prelude.{◌≡◌, ◌↔◌, Err, IfErr, IfOk, IfSome, IsErr, None, OnErr, OnOk, Some, if◌then◌else◌, nat_eq};
+ghost use Rattle.std.specs.Prelude.{◌≡◌, ◌↔◌, Err, IfErr, IfOk, IfSome, IsErr, None, OnErr, OnOk, Some, if◌then◌else◌, map, nat_eq};
 ghost use Rattle.std.specs.Option.{option_copied, option_map};
 ghost use Rattle.raft_frames.specs.declared.error.PushError.TheVariants as push;
 ghost use Rattle.raft_frames.specs.Format.{start};
 ghost use Rattle.raft_packed_wire.specs.raft_packed_node.Held.{IsPackedAtRest};
 ghost use Rattle.proof_logs.specs.Batches.{bytes_of};
-ghost use Rattle.raft_packed_server.specs.Checkpoints.{BeginsLog, TakesOver, first_batch, without_next_log};
-ghost use Rattle.raft_packed_server.specs.Fits.{FitsAt, FitsBoth, StepRunsOut};
+ghost use Rattle.raft_packed_server.specs.Checkpoints.{BeginsLog, TakesOver, first_batches, without_next_log};
+ghost use Rattle.raft_packed_server.specs.Fits.{FitFrom, FitsBoth, StepRunsOut};
 ghost use Rattle.raft_packed_server.specs.Logs.{logged_by};
 ghost use Rattle.raft_packed_server.specs.Recovery.{Opens, unstarted};
 ghost use Rattle.raft_packed_server.specs.Represents.{Flushes, HandsOut, Stays, Takes};
 ghost use Rattle.raft_packed_server.specs.Views.{IsWithTaken, released, step_of};
 ghost use Rattle.raft_packed_server.specs.declared.error.ServerError.TheVariants.{Stopped, Write};
 
-use crate::batch::{Said, Written};
-use crate::checkpoint::{begin_log, give_up_log, take_over};
+use crate::batch::{NewLog, Said, Written};
+use crate::checkpoint::{begin_log, give_up_log, prepare_log, take_over};
 use crate::error::{OpenError, ServerError};
 use crate::records::Records;
 use crate::recovery::{Recovery, recover};
@@ -28,6 +28,7 @@ use raft_packed_wire::raft_packed_node::{Node, Outbox, PackedAct};
 use raft_schedule::event::{Outcome, Start};
 use std::alloc::{AllocError, Global};
 use std::marker::Model;
+use std::num::NonZeroUsize;
 
 /// A server without input and output: a node, the bytes for its log's end, and what waits until they are on disk.
 pub struct Server<M: Machine> {
@@ -197,18 +198,32 @@ impl<M: Machine> Server<M> {
         }
     }
 
+    /// Prepares a new log, while the old one goes on: encodes some `most` bytes more of the snapshot with which it begins, or sums them. Answers
+    /// whether more is left to be done. It is lost once the snapshot changes. Out of memory, what was prepared is dropped.
+    pub fn prepare_log(&mut self, id: &LogId, most: NonZeroUsize) -> Result<bool, AllocError>
+        ensures { self.new ≡ self.old }
+    {
+        let Some(serving) = &mut self.serving else {
+            return Ok(false);
+        };
+        prepare_log(self.alloc, id, most, serving)
+    }
+
     /// Begins a new log: a checkpoint, which makes what the old log's records made. Its bytes are written to a new file, beside the old one, which
     /// goes on as before. From now on what [`write`](Server::write) hands out for the new log is appended to its file. Once that has all of it and
     /// is synced, [`take_over`](Server::take_over) is called. A new log that was on its way before is given up.
+    ///
+    /// Its first frame has the snapshot, as [`prepare_log`](Server::prepare_log) has made it; else it is made now, which takes long if the state is
+    /// large. The second one has all else.
     ///
     /// A crash before the new file has the old one's place leaves the old log, and one after that the new log: they make the same.
     ///
     /// None while a frame is on its way to the disk, or records wait. An `Err` changes nothing:
     /// - [`ServerError::Stopped`]: the server has stopped.
-    /// - [`ServerError::Write`]: the checkpoint has more than [`MAX_FRAME`](raft_frames::MAX_FRAME) bytes, or out of memory.
-    pub fn begin_log(&mut self, id: &LogId) -> Result<Option<Written>, ServerError>
-        ensures begins { IfOk result (λ written. BeginsLog M.codec id.now self.old.serving written self.new.serving) }
-        ensures fits { IfSome self.old.serving (λ v. FitsAt (start id.now) (bytes_of (logged_by M.codec) (first_batch v))
+    /// - [`ServerError::Write`]: one of the frames has more than [`MAX_FRAME`](raft_frames::MAX_FRAME) bytes, or out of memory.
+    pub fn begin_log(&mut self, id: &LogId) -> Result<Option<NewLog>, ServerError>
+        ensures begins { IfOk result (λ log. BeginsLog M.codec id.now self.old.serving log self.new.serving) }
+        ensures fits { IfSome self.old.serving (λ v. FitFrom (start id.now) (map (bytes_of (logged_by M.codec)) (first_batches v))
             → IfErr result (λ e. e ≡ Write push.OutOfMemory)) }
         ensures given { self.new.given ≡ self.old.given }
         ensures err { OnErr result (self.new ≡ self.old) }
@@ -218,7 +233,7 @@ impl<M: Machine> Server<M> {
             return Err(ServerError::Stopped);
         };
         match begin_log(self.alloc, id, serving) {
-            Ok(written) => Ok(written),
+            Ok(log) => Ok(log),
             Err(error) => Err(ServerError::Write(error)),
         }
     }
