@@ -7,7 +7,7 @@ use Rattle.raft_frames.specs.declared.tail.Tail.{Tail}
 use Rattle.raft_codec.specs.Codec.{Codec}
 use Rattle.raft_peers.specs.proof_packed.Nodes.{PackedNode}
 use Rattle.raft_peers.specs.proof_packed.Stores.{Packed}
-use Rattle.raft_peers.specs.raft_packed_server.declared.batch.Written.{Written}
+use Rattle.raft_peers.specs.raft_packed_server.declared.batch.NewLog.{NewLog}
 use Rattle.raft_peers.specs.raft_packed_server.declared.serving.Serving.{Serving}
 use Rattle.raft_peers.specs.raft_packed_server.Checkpoints.{BeginsLog, TakesOver, without_next_log}
 use Rattle.raft_peers.specs.raft_packed_server.Recovery.{GoesOn}
@@ -30,7 +30,7 @@ has_snapshot (Some v) header tail p goes is = ap Some (sym is)
 module _ {S : Type 0} (c : Codec S) where
   -- a new log is begun at the server, or not
   begins_at : (log : LogId) (old : CoreView S) (serving : Option (Serving S)) → old.server.serving ≡ serving
-      → (written : Option Written) (server : ServerView S) → BeginsLog c log serving written server.serving → server.given ≡ old.server.given
+      → (written : Option NewLog) (server : ServerView S) → BeginsLog c log serving written server.serving → server.given ≡ old.server.given
       → MayBeginLog c log old written (record old { server = server })
   begins_at log old None is written server begins given = absurd begins
   begins_at log old (Some v) is None server begins given =
@@ -42,7 +42,7 @@ module _ {S : Type 0} (c : Codec S) where
     rest = λ i. record old { server = record { given = given i; serving = begins.1 i } };
   }
 
-  pub begins : (log : LogId) (old : CoreView S) (written : Option Written) (server : ServerView S)
+  pub begins : (log : LogId) (old : CoreView S) (written : Option NewLog) (server : ServerView S)
       → BeginsLog c log old.server.serving written server.serving → server.given ≡ old.server.given
       → MayBeginLog c log old written (record old { server = server })
   begins log old written server = begins_at log old old.server.serving refl written server

@@ -26,6 +26,7 @@ use Rattle.raft_peers.specs.raft_packed_wire.declared.packet.SentPart.{SentPart}
 use Rattle.raft_peers.specs.raft_packed_wire.Messages.{received}
 use Rattle.raft_peers.specs.raft_packed_wire.Values.{kept}
 use Rattle.raft_peers.specs.raft_packed_server.declared.error.ServerError.{ServerError}
+use Rattle.raft_peers.specs.raft_packed_server.declared.batch.NewLog.{NewLog}
 use Rattle.raft_peers.specs.raft_packed_server.declared.batch.Written.{Written}
 use Rattle.raft_peers.specs.raft_packed_server.declared.serving.Serving.{Serving}
 use Rattle.raft_peers.specs.raft_packed_server.Checkpoints.{IsNewLog, TakesOver, with_next_log, without_next_log}
@@ -342,14 +343,14 @@ module _ {S : Type 0} (app : Application S) (c : Codec S) where
 
 module _ {S : Type 0} (c : Codec S) where
   -- a new log is handed out whole, and is on its way from then on: nothing else is done
-  pub record BeginsNewLog (log : LogName) (old : CoreView S) (w : Written) (new : CoreView S) : Type 0 where
+  pub record BeginsNewLog (log : LogName) (old : CoreView S) (w : NewLog) (new : CoreView S) : Type 0 where
     pub serving : Serving S
     pub serves : old.server.serving ≡ Some serving
     pub is_new : IsNewLog c log serving w
     pub rest : new ≡ record old { server = record old.server { serving = Some (with_next_log c log serving) } }
 
   -- or none is
-  abbrev pub MayBeginLog : LogName → CoreView S → Option Written → CoreView S → Type 0
+  abbrev pub MayBeginLog : LogName → CoreView S → Option NewLog → CoreView S → Type 0
   MayBeginLog log old None new = new ≡ old
   MayBeginLog log old (Some w) new = BeginsNewLog log old w new
 

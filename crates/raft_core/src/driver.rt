@@ -43,11 +43,11 @@ use raft_peers::frame::{
 };
 use raft_peers::output::{Output, push};
 use raft_peers::parts::{Incoming, Outgoing, go_on, keep_of};
-use raft_peers::prepare::{Preparing, encode_some, keep_prepared};
+use raft_peers::prepare::{Preparing, encode_some, keep_prepared, some_of};
 use raft_peers::raft_packed_server::raft_packed::{Machine, Packed};
 use raft_peers::raft_packed_server::raft_packed_node::{PackedAct, PackedMessage, StepError};
 use raft_peers::raft_packed_server::raft_packed_wire::{PackedContent, PackedPacket, SentPart};
-use raft_peers::raft_packed_server::{OpenError, Server, Written};
+use raft_peers::raft_packed_server::{NewLog, OpenError, Server, Written};
 use raft_peers::send::Sender;
 use raft_progress::Joint;
 use raft_reads::{Question, Reader, Reads};
@@ -59,6 +59,12 @@ use std::marker::Model;
 
 /// About how many bytes of a snapshot are encoded at once: it takes less than a millisecond.
 const PIECE_BYTES: usize = 1 << 17;
+
+/// How many of them are encoded or summed at once for a new log, which is to be done before the old one is much longer.
+const LOG_PIECES: usize = 8;
+
+/// How many late entries are applied to a snapshot's state at once, at most: it takes some milliseconds.
+const LATE_ENTRIES: usize = 2_000;
 
 /// What clients have asked for without an answer so far.
 #[derive(Drop)]
@@ -171,7 +177,19 @@ fn snapshot_of<M: Machine>(alloc: Global, server: &Server<M>) -> Result<Packed<M
     }
 }
 
-/// What it is time for.
+/// Prepares a new log: some bytes of its snapshot are encoded, or summed. Answers whether more is left to be done.
+fn prepare_some_log<M: Machine>(server: &mut Server<M>, log: &LogName) -> Result<bool, AllocError>
+    ensures { server.new ≡ server.old }
+{
+    for _ in 0..LOG_PIECES {
+        if !server.prepare_log(log, some_of(PIECE_BYTES))? {
+            return Ok(false);
+        }
+    }
+    Ok(true)
+}
+
+/// What it is time for. A build's end may wait while the snapshot is wanted as it is, or a member wants the entries before it.
 fn plan<M: Machine>(
     alloc: Global,
     server: &Server<M>,
@@ -179,15 +197,14 @@ fn plan<M: Machine>(
     clock: &Clock,
     random: u64,
     asked_at: Option<u64>,
-    is_preparing: bool,
+    is_wanted: bool,
     length: &mut LogLength,
 ) -> Result<Plan, AllocError> {
     let Some(engine) = engine_of(server) else {
         return Ok(Plan::nothing(alloc));
     };
-    // a state that is being encoded is shared: to apply an entry to it copies it
-    let is_wanted = is_preparing || policy.holds_build(engine, clock);
-    let is_held = is_wanted && length.lets_builds_wait();
+    let stays = is_wanted && length.lets_snapshots_stay();
+    let is_held = stays || length.lets_builds_wait() && policy.holds_build(engine, clock);
     let ends_build = is_building(server) && !is_held && length.ends_build();
     policy.tick(engine, clock, random, asked_at, ends_build)
 }
@@ -607,6 +624,7 @@ impl<M: Machine> RaftCore<M> {
         ensures ticks { IfOk result (λ outputs. Ticks M.application self.old outputs.items self.new) }
     {
         self.clock.advance(elapsed);
+        let is_wanted = self.is_snapshot_wanted();
         let Plan { moves, asks } = plan(
             self.alloc,
             &self.server,
@@ -614,7 +632,7 @@ impl<M: Machine> RaftCore<M> {
             &self.clock,
             random,
             self.clients.reads.asked_at(),
-            !self.preparing.is_empty(),
+            is_wanted,
             &mut self.log,
         )?;
         take_all(&mut self.server, moves, &self.clock)?;
@@ -630,6 +648,11 @@ impl<M: Machine> RaftCore<M> {
             &mut outputs,
         )?;
         Ok(outputs)
+    }
+
+    /// Whether something is made of the snapshot: of one that is to leave, which shares the state, or for a new log.
+    fn is_snapshot_wanted(&self) -> bool {
+        !self.preparing.is_empty() || self.log.preparing().is_some()
     }
 
     /// These members are wanted: this server, which leads, changes to them step by step. New voters come as learners and are
@@ -786,15 +809,22 @@ impl<M: Machine> RaftCore<M> {
     /// their own, and behind them what leaves for the new log from then on (`Append`), while the old log goes on. Once the file has all of
     /// that, and is synced, [`take_over`](RaftCore::take_over) gives it the old log's place.
     ///
-    /// None if the log isn't long, while a new one is on its way, while bytes are on their way to the disk or records wait, once the server
-    /// has stopped, if a frame can't hold the checkpoint, or out of memory: nothing has changed then.
-    #[tactic(auto, using(crate::proofs::Begun::begins))]
-    pub fn begin_log(&mut self, log: &LogName) -> Option<Written>
+    /// None if the log isn't long, while a new one is on its way or prepared, call by call, while bytes are on their way to the disk or records
+    /// wait, once the server has stopped, if a frame can't hold the checkpoint, or out of memory: nothing has changed then.
+    pub fn begin_log(&mut self, log: &LogName) -> Option<NewLog>
         ensures { MayBeginLog M.codec log.now self.old result self.new }
     {
-        if !self.log.is_long() {
+        if !self.log.is_long() || self.prepare_log(log) {
             return None;
         }
+        self.begin_prepared(log)
+    }
+
+    /// Begins a new log, as it was prepared. None as [`RaftCore::begin_log`].
+    #[tactic(auto, using(crate::proofs::Begun::begins))]
+    fn begin_prepared(&mut self, log: &LogName) -> Option<NewLog>
+        ensures { MayBeginLog M.codec log.now self.old result self.new }
+    {
         let Ok(begun) = self.server.begin_log(log) else {
             self.log.note_failed();
             return None;
@@ -803,12 +833,26 @@ impl<M: Machine> RaftCore<M> {
         begun
     }
 
-    /// A new log was begun, if one was.
-    fn note_begun(&mut self, begun: &Option<Written>)
+    /// Prepares a new log a little. Answers whether more is left to be done.
+    fn prepare_log(&mut self, log: &LogName) -> bool
         ensures { self.new ≡ self.old }
     {
-        if let Some(written) = begun {
-            self.log.note_begun(written.end);
+        self.log.note_preparing(*log);
+        match prepare_some_log(&mut self.server, log) {
+            Ok(is_more) => is_more,
+            Err(_) => {
+                self.log.note_failed();
+                true
+            }
+        }
+    }
+
+    /// A new log was begun, if one was.
+    fn note_begun(&mut self, begun: &Option<NewLog>)
+        ensures { self.new ≡ self.old }
+    {
+        if let Some(log) = begun {
+            self.log.note_begun(log.end);
         }
     }
 
@@ -842,24 +886,32 @@ impl<M: Machine> RaftCore<M> {
         self.log.note_failed();
     }
 
-    /// Makes a part of the snapshot's state, for which nothing waits: [`Server::fold_some`](raft_packed_server::Server::fold_some). Answers
-    /// whether more is left. If a snapshot is to leave, it encodes a part of that instead: while they share a state, to apply an entry to it
-    /// copies it.
+    /// Does a little for which nothing waits, and answers whether more is left: it makes a part of the snapshot's state
+    /// ([`Server::fold_some`](raft_packed_server::Server::fold_some)), and prepares a new log that is wanted. If a snapshot is to leave, it encodes a
+    /// part of that instead: while they share a state, to apply an entry to it copies it.
     pub fn fold_some(&mut self, most: usize) -> Result<bool, CoreError>
         ensures { OnOk result (self.new ≡ self.old) }
     {
         if !self.preparing.is_empty() {
             return Ok(encode_some(self.alloc, PIECE_BYTES, &mut self.preparing)?);
         }
-        Ok(self.server.fold_some(most)?)
+        if self.server.fold_some(most)? {
+            return Ok(true);
+        }
+        match self.log.preparing() {
+            Some(log) => Ok(self.prepare_log(&log)),
+            None => Ok(false),
+        }
     }
 
-    /// Makes all of the snapshot's state, if a new log is to begin with it.
-    fn fold_if_long(&mut self) -> Result<(), CoreError>
+    /// Makes more of the snapshot's state, if a new log is to begin with it, or a build is to end; unless a snapshot that is to leave shares it:
+    /// then all of it would be copied.
+    fn fold_if_waited_for(&mut self) -> Result<(), CoreError>
         ensures { OnOk result (self.new ≡ self.old) }
     {
-        if self.log.is_long() {
-            self.server.fold_some(usize::MAX)?;
+        let is_waited_for = self.log.is_long() || is_building(&self.server);
+        if is_waited_for && self.preparing.is_empty() {
+            self.server.fold_some(LATE_ENTRIES)?;
         }
         Ok(())
     }
@@ -874,7 +926,7 @@ impl<M: Machine> RaftCore<M> {
     pub fn flushed(&mut self, position: u64) -> Result<Vec<Output<M>>, CoreError>
         ensures { IfOk result (λ outputs. Releases M.application M.codec position self.old outputs.items self.new) }
     {
-        self.fold_if_long()?;
+        self.fold_if_waited_for()?;
         let said = self.server.flushed(position)?;
         self.note_flushed(position);
         let term = lead_term(&self.policy, &self.server);

@@ -1,6 +1,9 @@
 //! How long a server's log is.
 
-use raft_frames::MAX_FRAME;
+use raft_frames::{LogId, MAX_FRAME};
+
+/// Up to where a log ends whose builds end.
+const MOST_BUILT: u64 = (MAX_FRAME / 8 * 7) as u64;
 
 /// Where a log ends, when it is long, and when it may have another snapshot, in bytes.
 #[derive(Clone, Copy)]
@@ -16,6 +19,8 @@ pub struct LogLength {
     grown: u64,
     /// Whether a build has ended since the log's end was noted.
     has_built: bool,
+    /// The name of a new log that is prepared, if one is.
+    preparing: Option<LogId>,
     /// Where the checkpoint ends of a new log, if one is on its way.
     next: Option<u64>,
 }
@@ -30,30 +35,41 @@ impl LogLength {
             built: 0,
             grown: 0,
             has_built: false,
+            preparing: None,
             next: None,
         }
     }
 
-    /// Whether a new log is worth its bytes: behind the old one's checkpoint came as many as that has, and none is on its way.
+    /// From where on the log is long: behind its checkpoint came as many bytes as that has.
+    fn long_end(&self) -> u64 {
+        self.least.max(self.begun.saturating_mul(2))
+    }
+
+    /// Whether a new log is worth its bytes: the old one is long, and none is on its way.
     pub fn is_long(&self) -> bool {
-        self.next.is_none() && self.end >= self.least.max(self.begun.saturating_mul(2))
+        self.next.is_none() && self.end >= self.long_end()
     }
 
     /// Whether a build is to end now, which is noted: behind the snapshot before came as many bytes as that has, and a frame can hold
     /// the state that the log gives, which has about as many bytes as the log at most. A record that no frame can hold would end the
     /// server.
     pub fn ends_build(&mut self) -> bool {
-        let ends = self.grown >= self.built && self.end <= (MAX_FRAME / 4) as u64;
+        let ends = self.grown >= self.built && self.end <= MOST_BUILT;
         self.has_built |= ends;
         ends
     }
 
     /// Whether the end of a build may wait, while the log grows: it isn't long, and builds may still end for as many bytes more.
     pub fn lets_builds_wait(&self) -> bool {
-        !self.is_long() && self.end <= (MAX_FRAME / 8) as u64
+        !self.is_long() && self.end <= MOST_BUILT / 2
     }
 
-    /// For how many bytes of a snapshot there is room from the start: as many as the log has, unless that is too long for builds.
+    /// Whether it may wait for what is made of the snapshot: the log isn't twice as long as a long one, and builds may still end for many bytes.
+    pub fn lets_snapshots_stay(&self) -> bool {
+        self.end < self.long_end().saturating_mul(2) && self.end <= MOST_BUILT / 4 * 3
+    }
+
+    /// For how many bytes of a snapshot there is room from the start: as many as the log has, but not for all of a long one.
     pub fn room(&self) -> usize {
         self.end.min((MAX_FRAME / 4) as u64) as usize
     }
@@ -70,8 +86,19 @@ impl LogLength {
         self.end = end;
     }
 
+    /// A new log of this name is prepared.
+    pub fn note_preparing(&mut self, name: LogId) {
+        self.preparing = Some(name);
+    }
+
+    /// The name of the new log that is prepared, if one is.
+    pub fn preparing(&self) -> Option<LogId> {
+        self.preparing
+    }
+
     /// A new log is on its way, whose checkpoint ends there.
     pub fn note_begun(&mut self, end: u64) {
+        self.preparing = None;
         self.next = Some(end);
     }
 
@@ -85,6 +112,7 @@ impl LogLength {
     /// A new log can't be made, or written. The old one counts as a checkpoint: it is tried again once that is twice as long.
     pub fn note_failed(&mut self) {
         self.begun = self.end;
+        self.preparing = None;
         self.next = None;
     }
 }

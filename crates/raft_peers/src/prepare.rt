@@ -1,6 +1,7 @@
 //! Messages whose snapshots are encoded in steps, before they leave in parts: a large one at once would keep a server from all else for seconds.
 
-ghost use Rattle.std.specs.Prelude.{◌≡◌, ◌⊎◌, ◌++◌, Contains, IfErr, IfOk, List, OnOk};
+ghost use Rattle.std.specs.Prelude.{◌≡◌, ◌⊎◌, ◌++◌, Contains, IfErr, IfOk, List, OnOk, max};
+ghost use Rattle.std.specs.NonZero.{non_zero_usize_get};
 ghost use Rattle.raft_packed_server.specs.proof_packed.Nodes.{PackedMessage as Prepared};
 ghost use Rattle.raft_packed_server.specs.raft_packed_wire.Values.{kept};
 ghost use Rattle.raft_peers.specs.Parts.{outgoing_of};
@@ -41,7 +42,9 @@ impl<M: Machine> Model for Preparing<M> {
 }
 
 /// So much, but not nothing.
-fn some_of(most: usize) -> NonZeroUsize {
+pub fn some_of(most: usize) -> NonZeroUsize
+    ensures { non_zero_usize_get result ≡ max 1 most }
+{
     NonZeroUsize::new(most).unwrap_or(NonZeroUsize::MIN)
 }
 

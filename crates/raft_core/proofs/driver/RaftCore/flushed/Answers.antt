@@ -43,7 +43,7 @@ returns g c =
       preparing = c.leave.new.preparing.items;
       outgoing = c.leave.new.going.items;
     }))
-    (c.self.view_is ∙ c.in_ok-fold_if_long.ensures)
+    (c.self.view_is ∙ c.in_ok-fold_if_waited_for.ensures)
     (releases app codec c.args.position old view out c.flushed.new.self c.in_ok-said.said c.in_ok-leave.ensures.outputs.0
     c.leave.new.requests c.leave.new.executed c.leave.new.reads c.keep_prepared.new.preparing.items c.leave.new.preparing.items
     c.keep_of.new.outgoing.items c.leave.new.going.items

@@ -2,7 +2,7 @@ use Rattle.std.proofs.Common.{subst, sym}
 use Rattle.raft_core.specs.Calls.{MayBeginLog}
 use Rattle.raft_core.specs.Views.{CoreView}
 use Rattle.raft_core.proofs.Begun.{begins}
-use Rattle.raft_core.proofs.driver.RaftCore.begin_log.Goals as goal
+use Rattle.raft_core.proofs.driver.RaftCore.begin_prepared.Goals as goal
 
 pub returns : goal.returns
 returns g c =
