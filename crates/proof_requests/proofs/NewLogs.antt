@@ -10,7 +10,7 @@ use Rattle.proof_clients.proofs.Sequences.{each_of}
 use Rattle.proof_packed.specs.Stores.{Application}
 use Rattle.raft_core.specs.proof_packed_servers.Servers.{PackedServer, server_packed}
 use Rattle.proof_servers.specs.Servers.{Action, after_actions, new_cluster}
-use Rattle.raft_core.specs.raft_packed_server.declared.batch.Written.{Written}
+use Rattle.raft_core.specs.raft_packed_server.declared.batch.NewLog.{NewLog}
 use Rattle.raft_core.specs.raft_packed_server.declared.serving.Serving.{Serving}
 use Rattle.raft_core.specs.raft_packed_server.Checkpoints.{TakesOver, with_next_log, without_next_log}
 use Rattle.raft_core.specs.raft_packed_server.Represents.{StandsFor}
@@ -93,7 +93,7 @@ module _ {S : Type 0} (app : Application S) (codec : Codec S) (given : Given) (a
           h.moving;
     }
 
-  pub beside_new_log : (log : LogName) (w : Written) → BeginsNewLog codec log old w new → AreBeside app codec given actions placed with_new
+  pub beside_new_log : (log : LogName) (w : NewLog) → BeginsNewLog codec log old w new → AreBeside app codec given actions placed with_new
   beside_new_log log w b =
       beside_log (Some (with_next_log codec log b.serving)) b.rest
       (new_logs_go_on app codec log server b.serving w (subst (StandsFor app server) b.serves core.stands) b.is_new).old

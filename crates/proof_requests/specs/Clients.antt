@@ -21,7 +21,7 @@ use Rattle.proof_packed.specs.Stores.{Application}
 use Rattle.raft_core.specs.proof_packed_servers.Checkpoints.{AreSameDisks}
 use Rattle.raft_core.specs.proof_packed_servers.Servers.{PackedDisk, PackedStep, server_packed}
 use Rattle.raft_core.specs.raft_packed_wire.declared.record.NamedRecord.{NamedRecord}
-use Rattle.raft_core.specs.raft_packed_server.declared.batch.Written.{Written}
+use Rattle.raft_core.specs.raft_packed_server.declared.batch.NewLog.{NewLog}
 use Rattle.raft_core.specs.raft_packed_server.Laws.{IsCut, OpensCrashed, cut_file}
 use Rattle.raft_core.specs.declared.driver.OpenedCore.{OpenedCore}
 use Rattle.raft_core.specs.raft_peers.declared.output.Output.{Output}
@@ -326,7 +326,7 @@ module _ {S : Type 0} (app : Application S) (c : Codec S) where
     pub receives : StaysByFrame
     pub writes : StaysBy (Writes app c) (λ old out new d. written app c old out new d)
     pub releases : StaysByRelease
-    pub new_logs : (log : LogName) (w : Written) → StaysByLog (λ old new. BeginsNewLog c log old w new)
+    pub new_logs : (log : LogName) (w : NewLog) → StaysByLog (λ old new. BeginsNewLog c log old w new)
     pub take_overs : (end : Option ℕ) → StaysByLog (λ old new. TakesOverLog old end new)
     pub given_up : StaysByLog (λ old new. GivesUpLog old new)
 

@@ -27,7 +27,7 @@ use Rattle.proof_requests.specs.raft_packed_server.declared.batch.Batch.{Batch}
 use Rattle.proof_requests.specs.raft_packed_server.declared.batch.Written.{Written}
 use Rattle.proof_requests.specs.raft_packed_server.declared.server.Opened.{Opened}
 use Rattle.proof_requests.specs.raft_packed_server.declared.serving.Serving.{Serving}
-use Rattle.proof_requests.specs.raft_packed_server.Checkpoints.{GoesOnBesideNewLog, TakesOver, first_batch, with_log_at, with_next_log, without_next_log}
+use Rattle.proof_requests.specs.raft_packed_server.Checkpoints.{GoesOnBesideNewLog, TakesOver, first_batches, with_log_at, with_next_log, without_next_log}
 use Rattle.proof_requests.specs.raft_packed_server.Laws.{IsAtEnd, IsAtNextEnd, OpensCrashed, cut_file}
 use Rattle.proof_requests.specs.raft_packed_server.Logs.{HasLog, first_records, left_by, logged_by}
 use Rattle.proof_requests.specs.raft_packed_server.Recovery.{OpensOn}
@@ -578,14 +578,14 @@ module _ {S : Type 0} (app : Application S) (codec : Codec S) where
         ap (λ (x : CoreView S). x.server.given) b.does.rest ∙ (runs_on b.core b.is_open).0,
         subst (Serves app codec log s is.batches is.next is.k disk m.written) (sym now) (goes_on.old, goes m.written serves.1),
       );
-      beside = subst (ServesNext app codec log s (batch_on_way m.written is.next) (b.log.bytes.items ++ next_bytes_of m.written)) (sym now)
-          (subst (λ (o : Option Handed). (next.next ≡ None) ⊎ HasNext app codec log s (batch_on_way o is.next) (b.log.bytes.items ++ next_bytes_of o) next) (sym none)
+      beside = subst (ServesNext app codec log s (batch_on_way m.written is.next) (n.beside.items ++ next_bytes_of m.written)) (sym now)
+          (subst (λ (o : Option Handed). (next.next ≡ None) ⊎ HasNext app codec log s (batch_on_way o is.next) (n.beside.items ++ next_bytes_of o) next) (sym none)
           (inr (record {
             disk = (packed_checkpointed app s).disk;
             same = same goes_on.waits;
-            batches = first_batch v ∷ [];
+            batches = first_batches v;
             has = goes_on.has;
-            at_end = subst (λ file. IsAtNextEnd codec log (first_batch v ∷ []) file next) (sym (append-nil b.log.bytes.items)) goes_on.ends;
+            at_end = subst (λ file. IsAtNextEnd codec log (first_batches v) file next) (sym (append-nil n.beside.items ∙ b.beside)) goes_on.ends;
           })));
     })
       where

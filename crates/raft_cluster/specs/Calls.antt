@@ -5,7 +5,8 @@ use Rattle.raft_codec.specs.Codec.{Codec}
 use Rattle.raft_answers.specs.declared.request.Operation.{Operation}
 use Rattle.raft_answers.specs.declared.request.Token.{Token}
 use Rattle.proof_packed.specs.Stores.{Application}
-use Rattle.proof_requests.specs.raft_packed_server.declared.batch.Written.{Written}
+use Rattle.proof_requests.specs.raft_packed_server.Checkpoints.{new_log_bytes}
+use Rattle.proof_requests.specs.raft_packed_server.declared.batch.NewLog.{NewLog}
 use Rattle.proof_requests.specs.raft_core.declared.driver.OpenedCore.{OpenedCore}
 use Rattle.proof_requests.specs.raft_core.declared.error.FrameError.{FrameError}
 use Rattle.proof_requests.specs.raft_core.declared.error.FrameError.TheVariants.{Core}
@@ -89,9 +90,10 @@ pub record ByNewLog {S : Type 0} (codec : Codec S) (old : Machine S) (out : List
   pub core : CoreView S
   pub is_open : old.core ≡ Some core
   pub next : CoreView S
-  pub log : Written
+  pub log : NewLog
   pub does : BeginsNewLog codec (log_on old) core log next
-  pub becomes : new ≡ record old { core = Some next; beside = log.bytes }
+  pub beside : new.beside.items ≡ new_log_bytes log
+  pub becomes : new ≡ record old { core = Some next; beside = new.beside }
 
 module _ {S : Type 0} where
   -- that file takes the disk's place, all at once

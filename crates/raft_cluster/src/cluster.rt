@@ -396,11 +396,11 @@ impl<M: StateMachine> Cluster<M> {
     }
 
     /// A server begins a new log, if its log is long.
-    fn checkpoint(&mut self, id: u64) -> Comes
-        ensures { Holds M.application M.codec self.old → Holds M.application M.codec self.new }
+    fn checkpoint(&mut self, id: u64) -> Result<Comes, AllocError>
+        ensures { OnOk result (Holds M.application M.codec self.old → Holds M.application M.codec self.new) }
     {
         let Some(place) = place_of(&self.machines, id) else {
-            return Comes::NoServer;
+            return Ok(Comes::NoServer);
         };
         self.machines[place].begin_log()
     }
@@ -585,7 +585,7 @@ impl<M: StateMachine> Cluster<M> {
                 self.deliver(*number)
             }
             Action::Receive { id, bytes } => self.receive(*id, bytes.as_slice()),
-            Action::Checkpoint(id) => Ok(self.checkpoint(*id)),
+            Action::Checkpoint(id) => self.checkpoint(*id),
             Action::TakeOver(id) => Ok(self.take_over(*id)),
             Action::GiveUp(id) => Ok(self.give_up(*id)),
             Action::CrashInCheckpoint(id) => Ok(self.crash_in_checkpoint(*id)),

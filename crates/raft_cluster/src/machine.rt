@@ -1,7 +1,8 @@
 //! A server and its disk.
 
 ghost use Rattle.std.specs.Prelude.{◌≡◌, ◌++◌, [], IfOk, None, OnOk, length, take, true};
-ghost use Rattle.proof_requests.specs.raft_core.Calls.{Receives, Ticks};
+ghost use Rattle.proof_requests.specs.raft_core.Calls.{MayBeginLog, Receives, Ticks};
+ghost use Rattle.proof_requests.specs.raft_packed_server.Checkpoints.{new_log_bytes};
 ghost use Rattle.proof_requests.specs.Actions.{Initializes};
 ghost use Rattle.raft_cluster.specs.Calls.{ByCore, ByFlush, ByNewLog, ByTakeOver, ByWrite, Calls, GivesUp};
 ghost use Rattle.raft_cluster.specs.Calls.{Never, ReadsIf, Refuses, RequestsIf, StartsIf, Stops};
@@ -12,7 +13,8 @@ ghost use Rattle.raft_cluster.specs.Outputs.{handed_in, others_in};
 ghost use Rattle.raft_cluster.specs.Servers.{log_on};
 
 use crate::comes::Comes;
-use proof_requests::raft_core::{Config, FrameError, OpenedCore, Output, RaftCore};
+use proof_requests::raft_core::raft_packed_server::NewLog;
+use proof_requests::raft_core::{Config, CoreError, FrameError, OpenedCore, Output, RaftCore};
 use raft_answers::{Operation, Token};
 use raft_frames::LogId;
 use raft_node::given::Given;
@@ -22,6 +24,9 @@ use std::alloc::{AllocError, Global};
 
 /// The cluster that the servers' logs are of.
 const CLUSTER: u64 = 1;
+
+/// How many entries are applied to a snapshot's state at once.
+const ENTRIES: usize = 1_000;
 
 /// A server, while it is open, and its disk, which it knows only by what it reads when it opens.
 pub struct Machine<M: StateMachine> {
@@ -90,6 +95,44 @@ fn append_beside(next: &Option<Items<u8>>, beside: &mut Vec<u8>) -> Result<(), A
         None => Ok(()),
         Some(next) => beside.extend_from_slice(next.as_slice()),
     }
+}
+
+/// The bytes of a new log, one piece behind the other.
+fn whole(log: NewLog) -> Result<Vec<u8>, AllocError>
+    ensures { IfOk result (λ bytes. bytes.items ≡ new_log_bytes log) }
+{
+    let NewLog {
+        mut front,
+        snapshot,
+        rest,
+        ..
+    } = log;
+    front.extend_from_slice(&snapshot)?;
+    front.extend_from_slice(&rest)?;
+    Ok(front)
+}
+
+/// Has a server do all for which nothing waits: it prepares a new log, if one is wanted.
+fn prepare<M: StateMachine>(core: &mut RaftCore<M>) -> Result<(), CoreError>
+    ensures { OnOk result (core.new ≡ core.old) }
+{
+    for _ in 0..u32::MAX {
+        if !core.fold_some(ENTRIES)? {
+            break;
+        }
+    }
+    Ok(())
+}
+
+/// Has a server begin a new log, if its log is long: it is prepared first.
+fn begin<M: StateMachine>(core: &mut RaftCore<M>, name: &LogId) -> Result<Option<NewLog>, CoreError>
+    ensures { IfOk result (λ log. MayBeginLog M.codec name.now core.old log core.new) }
+{
+    if let Some(log) = core.begin_log(name) {
+        return Ok(Some(log));
+    }
+    prepare(core)?;
+    Ok(core.begin_log(name))
 }
 
 /// What leaves, without the bytes for the log's end, and these.
@@ -402,20 +445,26 @@ impl<M: StateMachine> Machine<M> {
     }
 
     /// The server begins a new log if its log is long, in a file beside its disk.
-    pub fn begin_log(&mut self) -> Comes
-        ensures does { Calls (ByNewLog M.codec) self.old [] self.new }
+    pub fn begin_log(&mut self) -> Result<Comes, AllocError>
+        ensures does { OnOk result (Calls (ByNewLog M.codec) self.old [] self.new) }
         ensures id { self.new.id ≡ self.old.id }
     {
         let name = self.log();
         let Some(core) = &mut self.core else {
-            return Comes::NotOpen;
+            return Ok(Comes::NotOpen);
         };
-        let Some(log) = core.begin_log(&name) else {
-            return Comes::NoNewLog;
-        };
-        self.beside = log.bytes;
-        Comes::Begun {
-            len: self.beside.len(),
+        match begin(core, &name) {
+            Ok(Some(log)) => {
+                self.beside = whole(log)?;
+                Ok(Comes::Begun {
+                    len: self.beside.len(),
+                })
+            }
+            Ok(None) => Ok(Comes::NoNewLog),
+            Err(error) => {
+                self.close();
+                Ok(Comes::Failed(error))
+            }
         }
     }
 
@@ -458,12 +507,18 @@ impl<M: StateMachine> Machine<M> {
         let Some(core) = &mut self.core else {
             return Comes::NotOpen;
         };
-        let Some(_) = core.begin_log(&name) else {
-            return Comes::NoNewLog;
-        };
-        self.close();
-        Comes::Crashed {
-            len: self.disk.len(),
+        match begin(core, &name) {
+            Ok(Some(_)) => {
+                self.close();
+                Comes::Crashed {
+                    len: self.disk.len(),
+                }
+            }
+            Ok(None) => Comes::NoNewLog,
+            Err(error) => {
+                self.close();
+                Comes::Failed(error)
+            }
         }
     }
 
