@@ -20,7 +20,7 @@
 #include <stdint.h>
 
 /* The version of this header. */
-#define WACHELPO_SERVICE_VERSION 4
+#define WACHELPO_SERVICE_VERSION 5
 
 /* Inputs: what `first`, `second` and the bytes of a call are. A number of bytes is eight bytes, the lowest first. */
 enum wachelpo_input {
@@ -39,9 +39,10 @@ enum wachelpo_input {
     WACHELPO_STATUS = 12,    /* puts out STATUS */
     WACHELPO_BEGIN_LOG = 13, /* nothing is on its way to the disk: may put out NEW_LOG, once the log is long */
     WACHELPO_IDLE = 14,      /* nothing else is to be done: a little is that can wait. May put out MORE */
-    WACHELPO_TAKE_OVER = 15, /* the new log is synced with all that was put out for it, and nothing is on its way to the disk: puts out
-                                TAKEN_OVER */
-    WACHELPO_GIVE_UP_LOG = 16 /* the new log can't be written: the old one goes on alone */
+    WACHELPO_TAKE_OVER = 15, /* the new log is synced with all of its pieces and all that was put out for it, and nothing is on its way to
+                                the disk: puts out TAKEN_OVER */
+    WACHELPO_GIVE_UP_LOG = 16, /* the new log can't be written: the old one goes on alone */
+    WACHELPO_LOG_PIECE = 17  /* between other inputs, until all bytes of the new log were put out: puts out LOG_PIECE */
 };
 
 /* Outputs: one behind another, each its kind (4 bytes), the number of bytes of its body (4), a number (8), and its body. */
@@ -57,11 +58,12 @@ enum wachelpo_output {
                                 executed last */
     WACHELPO_OUT_ERROR = 7,  /* number: the code that the call returned, body: a text */
     WACHELPO_OUT_OPENED = 8, /* number: how many bytes of the log are kept: the others are cut off, and that is synced, first of all */
-    WACHELPO_OUT_NEW_LOG = 9, /* body: a new log, for a file beside the old one, which goes on; number: where it ends */
+    WACHELPO_OUT_NEW_LOG = 9, /* a new log, for a file beside the old one, which goes on; number: where it ends. The library has its bytes */
     WACHELPO_OUT_MORE = 10,  /* more is left to be done by IDLE */
-    WACHELPO_OUT_APPEND_NEXT = 11, /* right behind APPEND, body: bytes to append to the new log */
-    WACHELPO_OUT_TAKEN_OVER = 12 /* the new log takes the old one's place, durably, before anything more is written; number: where it ends.
+    WACHELPO_OUT_APPEND_NEXT = 11, /* right behind APPEND, body: bytes to append to the new log, behind all of its pieces */
+    WACHELPO_OUT_TAKEN_OVER = 12, /* the new log takes the old one's place, durably, before anything more is written; number: where it ends.
                                 Then it is FLUSHED up to there: which names places of the new log from then on */
+    WACHELPO_OUT_LOG_PIECE = 13 /* body: the next bytes of the new log, 256 KiB at most; number: where they begin there */
 };
 
 /* What a call returns. */

@@ -6,7 +6,7 @@ use Rattle.raft_core.specs.Calls as core
 use Rattle.raft_executor.specs.Executor.{executed_of, installed}
 use Rattle.raft_executor.specs.KeyValue.{application}
 use Rattle.raft_machine.specs.Bytes.{state}
-use Rattle.raft_core.specs.raft_packed_server.declared.batch.Written.{Written}
+use Rattle.raft_core.specs.raft_packed_server.declared.batch.NewLog.{NewLog}
 use Rattle.raft_service.specs.Core.{Core, CoreOutput, OpenedCore}
 use Rattle.raft_service.specs.Delivering.{DeliversAll}
 use Rattle.raft_service.specs.Intake.{Begins}
@@ -31,8 +31,8 @@ abbrev pub with_core : Service → Core → Service
 with_core s server = record s { intake = record s.intake { core = server } }
 
 -- a new log is begun for its server, or none is; nothing else is done
-pub record BeginsLog (old : Service) (written : Option Written) (new : Service) : Type 0 where
-  pub begins : core.MayBeginLog state old.id old.intake.core written new.intake.core
+pub record BeginsLog (old : Service) (log : Option NewLog) (new : Service) : Type 0 where
+  pub begins : core.MayBeginLog state old.id old.intake.core log new.intake.core
   pub rest : new ≡ with_core old new.intake.core
 
 -- it takes the old one's place, or none does; nothing else is done

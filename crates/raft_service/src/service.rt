@@ -24,7 +24,7 @@ use raft_answers::Reply;
 use raft_clients::{Clients, ConnectError};
 use raft_connection::Answer;
 use raft_core::raft_packed::Packed;
-use raft_core::raft_packed_server::Written;
+use raft_core::raft_packed_server::NewLog;
 use raft_core::{Config, CoreError, FrameError, OpenedCore, RaftCore, RequestError};
 use raft_executor::{Executor, KeyValue};
 use raft_frames::LogId;
@@ -217,7 +217,7 @@ impl Service {
     }
 
     /// Begins a new log, if the old one is long, as [`RaftCore::begin_log`].
-    pub fn begin_log(&mut self) -> Option<Written>
+    pub fn begin_log(&mut self) -> Option<NewLog>
         ensures { BeginsLog self.old result self.new }
     {
         self.intake.core.begin_log(&self.id)

@@ -12,7 +12,7 @@ use service_host::Host;
 use std::alloc::Global;
 
 /// The version of these functions, of the settings' form, and of what is put out.
-const VERSION: u32 = 4;
+const VERSION: u32 = 5;
 
 /// Hands an input to a host.
 fn call(host: &mut Host, input: u32, first: u64, second: u64, bytes: &[u8]) -> u32

@@ -1,7 +1,7 @@
 -- Inputs as numbers and bytes.
 use Rattle.std.specs.Prelude.{ℕ, ◌≡◌, List}
 use Rattle.service_host.specs.declared.inputs.Input.{Input}
-use Rattle.service_host.specs.declared.inputs.Input.TheVariants.{BeginLog, Idle, Settings, Open, Peer, Tick, Connect, Client}
+use Rattle.service_host.specs.declared.inputs.Input.TheVariants.{BeginLog, Idle, LogPiece, Settings, Open, Peer, Tick, Connect, Client}
 use Rattle.service_host.specs.declared.inputs.Input.TheVariants.{Disconnect, Write, Flushed, Initialize, Members, Status, TakeOver, GiveUpLog}
 
 -- what the input of a number is made of; the time and the members are read from the bytes
@@ -22,3 +22,4 @@ IsInput number first second bytes BeginLog = number ≡ 13
 IsInput number first second bytes Idle = number ≡ 14
 IsInput number first second bytes TakeOver = number ≡ 15
 IsInput number first second bytes GiveUpLog = number ≡ 16
+IsInput number first second bytes LogPiece = number ≡ 17

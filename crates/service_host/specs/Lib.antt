@@ -1,3 +1,4 @@
 pub mod Frames  -- outputs as bytes
+pub mod Pieces  -- a new log's bytes in pieces
 pub mod Inputs  -- inputs as numbers and bytes
 pub mod Host  -- what a call does

@@ -1,7 +1,7 @@
 //! Outputs as bytes.
 
 ghost use Rattle.std.specs.Prelude.{◌≡◌, ◌++◌, OnOk};
-ghost use Rattle.service_host.specs.Frames.{code_of, frame_of, framed, frames, next_frame};
+ghost use Rattle.service_host.specs.Frames.{code_of, frame_of, framed, frames, head_of, next_frame};
 ghost use Rattle.service_host.specs.declared.frames.OutputKind.TheVariants.{Append};
 
 use raft_service::{Output, Role, Status};
@@ -27,14 +27,16 @@ pub enum OutputKind {
     Error,
     /// The service is open: how many bytes of the log are kept.
     Opened,
-    /// The bytes of a new log, for a file of its own; it ends at the number.
+    /// A new log, for a file of its own: its bytes come in pieces (`LogPiece`), and end at the number.
     NewLog,
     /// More is left to be done while nothing else is.
     More,
-    /// Bytes for the end of the new log that is on its way.
+    /// Bytes for the new log that is on its way, behind all of its pieces and those before.
     AppendNext,
     /// The new log takes the old one's place; it ends at the number.
     TakenOver,
+    /// The next bytes of the new log, which begin there at the number.
+    LogPiece,
 }
 
 impl OutputKind {
@@ -55,8 +57,23 @@ impl OutputKind {
             OutputKind::More => 10,
             OutputKind::AppendNext => 11,
             OutputKind::TakenOver => 12,
+            OutputKind::LogPiece => 13,
         }
     }
+}
+
+/// Appends what stands before an output's body of so many bytes.
+pub(crate) fn write_head(
+    out: &mut Vec<u8>,
+    kind: OutputKind,
+    number: u64,
+    count: u32,
+) -> Result<(), AllocError>
+    ensures { OnOk result (out.new.items ≡ out.old.items ++ head_of kind number count) }
+{
+    out.extend_from_slice(&kind.code().to_le_bytes())?;
+    out.extend_from_slice(&count.to_le_bytes())?;
+    out.extend_from_slice(&number.to_le_bytes())
 }
 
 /// Appends an output. One of 4 GiB or more counts as out of memory.
@@ -72,9 +89,7 @@ pub(crate) fn write_output(
     if len > 0xffff_ffff {
         return Err(AllocError);
     }
-    out.extend_from_slice(&kind.code().to_le_bytes())?;
-    out.extend_from_slice(&(len as u32).to_le_bytes())?;
-    out.extend_from_slice(&number.to_le_bytes())?;
+    write_head(out, kind, number, len as u32)?;
     out.extend_from_slice(body)?;
     Ok(())
 }

@@ -2,24 +2,31 @@
 
 ghost use Rattle.std.specs.Prelude.{◌≡◌, ◌≤◌, ◌++◌, [], IfOk, OnOk, length, take, drop, min};
 ghost use Rattle.service_host.specs.Frames.{frames};
-ghost use Rattle.service_host.specs.Host.{Does, Feeding, new_log, taken_over, unread};
-ghost use Rattle.service_host.specs.declared.inputs.Input.TheVariants.{Idle};
+ghost use Rattle.service_host.specs.Host.{Does, Feeding, Serves, unread};
+ghost use Rattle.service_host.specs.declared.inputs.Input.TheVariants.{BeginLog, Idle, TakeOver};
 
 use crate::error::HostError;
 use crate::frames::{OutputKind, write_all, write_output, write_status};
 use crate::inputs::{Input, input_of};
+use crate::pieces::Pieces;
 use crate::settings::read_settings;
 use raft_service::raft_core::FrameError;
-use raft_service::raft_packed_server::Written;
 use raft_service::{Fed, OpenedService, Output, Service, Settings};
 use std::alloc::{AllocError, Global};
+
+/// A service that is open, and what is left of a new log's bytes.
+#[derive(Drop)]
+struct Running {
+    service: Service,
+    new_log: Pieces,
+}
 
 /// One service, or none before it is opened and after it has stopped; and what the last call put out.
 #[derive(Drop)]
 pub struct Host {
     alloc: Global,
     settings: Option<Settings>,
-    service: Option<Service>,
+    running: Option<Running>,
     out: Vec<u8>,
     /// How many bytes of that were read.
     read: usize,
@@ -65,24 +72,26 @@ fn put(outputs: Vec<Output>, out: &mut Vec<u8>) -> Result<(), HostError>
     Ok(())
 }
 
-/// Adds a new log, if one was begun.
-fn begin(written: Option<Written>, out: &mut Vec<u8>) -> Result<(), HostError>
+/// Begins a new log, if it is time for that.
+fn begin(running: &mut Running, out: &mut Vec<u8>) -> Result<(), HostError>
     requires { out.old.items ≡ [] }
-    ensures { OnOk result (out.new.items ≡ new_log written) }
+    ensures { OnOk result (Does BeginLog running.old running.new out.new.items) }
 {
-    if let Some(written) = written {
-        write_output(out, OutputKind::NewLog, written.end, &written.bytes)?;
+    if let Some(log) = running.service.begin_log() {
+        write_output(out, OutputKind::NewLog, log.end, &[])?;
+        running.new_log.begin(log);
     }
     Ok(())
 }
 
-/// Adds where the new log ends, if it takes the old one's place.
-fn take_over(end: Option<u64>, out: &mut Vec<u8>) -> Result<(), HostError>
+/// The new log takes the old one's place, if one is on its way.
+fn take_over(running: &mut Running, out: &mut Vec<u8>) -> Result<(), HostError>
     requires { out.old.items ≡ [] }
-    ensures { OnOk result (out.new.items ≡ taken_over end) }
+    ensures { OnOk result (Does TakeOver running.old running.new out.new.items) }
 {
-    if let Some(end) = end {
+    if let Some(end) = running.service.take_over() {
         write_output(out, OutputKind::TakenOver, end, &[])?;
+        running.new_log.spend();
     }
     Ok(())
 }
@@ -90,7 +99,7 @@ fn take_over(end: Option<u64>, out: &mut Vec<u8>) -> Result<(), HostError>
 /// Lets a service do a little, and tells whether more is left.
 fn idle(service: &mut Service, out: &mut Vec<u8>) -> Result<(), HostError>
     requires { out.old.items ≡ [] }
-    ensures { OnOk result (Does Idle service.old service.new out.new.items) }
+    ensures { OnOk result (Serves Idle service.old service.new out.new.items) }
 {
     if service.idle()? {
         write_output(out, OutputKind::More, 0, &[])?;
@@ -98,7 +107,7 @@ fn idle(service: &mut Service, out: &mut Vec<u8>) -> Result<(), HostError>
     Ok(())
 }
 
-/// Hands an input to the service.
+/// Hands an input to the service, which concerns no new log.
 fn serve(
     alloc: Global,
     service: &mut Service,
@@ -106,10 +115,9 @@ fn serve(
     out: &mut Vec<u8>,
 ) -> Result<(), HostError>
     requires { out.old.items ≡ [] }
-    ensures { OnOk result (Does input.entry service.old service.new out.new.items) }
+    ensures { OnOk result (Serves input.entry service.old service.new out.new.items) }
 {
     match input {
-        Input::Settings(_) | Input::Open(_) => Err(HostError::Misplaced),
         Input::Connect(client) => service.connect(client).map_err(HostError::Connect),
         Input::Disconnect(client) => {
             service.disconnect(client);
@@ -128,14 +136,35 @@ fn serve(
             now,
         } => put(service.tick(elapsed, random, now)?, out),
         Input::Write => put(service.write()?, out),
-        Input::BeginLog => begin(service.begin_log(), out),
-        Input::TakeOver => take_over(service.take_over(), out),
-        Input::GiveUpLog => {
-            service.give_up_log();
-            Ok(())
-        }
         Input::Flushed(position) => put(service.flushed(position)?, out),
         Input::Idle => idle(service, out),
+        _ => Err(HostError::Misplaced),
+    }
+}
+
+/// Hands an input to a service that is open.
+fn hand_in(
+    alloc: Global,
+    running: &mut Running,
+    input: Input<'_>,
+    out: &mut Vec<u8>,
+) -> Result<(), HostError>
+    requires { out.old.items ≡ [] }
+    ensures { OnOk result (Does input.entry running.old running.new out.new.items) }
+{
+    match input {
+        Input::BeginLog => begin(running, out),
+        Input::LogPiece => Ok(running.new_log.put(out)?),
+        Input::TakeOver => take_over(running, out),
+        Input::GiveUpLog => {
+            running.service.give_up_log();
+            running.new_log.spend();
+            Ok(())
+        }
+        input => {
+            running.new_log.free_some();
+            serve(alloc, &mut running.service, input, out)
+        }
     }
 }
 
@@ -170,7 +199,7 @@ impl Host {
         Host {
             alloc,
             settings: None,
-            service: None,
+            running: None,
             out: Vec::new(alloc),
             read: 0,
         }
@@ -187,7 +216,10 @@ impl Host {
             Input::Open(log) => {
                 let settings = self.settings.take().ok_or(HostError::Misplaced)?;
                 let service = open(self.alloc, settings, log, &mut self.out)?;
-                self.service = Some(service);
+                self.running = Some(Running {
+                    service,
+                    new_log: Pieces::none(self.alloc),
+                });
                 Ok(())
             }
             _ => Err(HostError::Misplaced),
@@ -204,8 +236,8 @@ impl Host {
         requires { self.old.out.items ≡ [] }
     {
         let input = input_of(self.alloc, number, first, second, bytes)?;
-        match &mut self.service {
-            Some(service) => serve(self.alloc, service, input, &mut self.out),
+        match &mut self.running {
+            Some(running) => hand_in(self.alloc, running, input, &mut self.out),
             None => self.prepare(input),
         }
     }
@@ -215,7 +247,7 @@ impl Host {
         ensures { result ≤ 10 }
     {
         if error.ends() {
-            self.service = None;
+            self.running = None;
         }
         self.out.clear();
         let code = error.code();
@@ -257,7 +289,7 @@ impl Host {
     /// The service is gone, and its memory is free.
     pub fn close(&mut self) {
         self.settings = None;
-        self.service = None;
+        self.running = None;
         self.out = Vec::new(self.alloc);
         self.read = 0;
     }

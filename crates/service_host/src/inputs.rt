@@ -39,6 +39,8 @@ pub enum Input<'a> {
     TakeOver,
     /// The new log can't be written.
     GiveUpLog,
+    /// The next bytes of the new log are wanted.
+    LogPiece,
     /// The log is on disk up to this position.
     Flushed(u64),
     /// The server gets the first entry of a new cluster.
@@ -98,6 +100,7 @@ fn refusal_of(unread: Unread) -> HostError {
 /// | 14 | idle | | | |
 /// | 15 | take over | | | |
 /// | 16 | give up a log | | | |
+/// | 17 | a piece of the new log | | | |
 pub fn input_of(
     alloc: Global,
     number: u32,
@@ -134,6 +137,7 @@ pub fn input_of(
         14 => Ok(Input::Idle),
         15 => Ok(Input::TakeOver),
         16 => Ok(Input::GiveUpLog),
+        17 => Ok(Input::LogPiece),
         _ => Err(HostError::BadInput),
     }
 }
