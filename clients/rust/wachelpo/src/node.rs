@@ -28,6 +28,8 @@ const KEPT: usize = 4 << 20;
 const NOTED: Duration = Duration::from_millis(500);
 /// Of how many parts of a new log the log itself waits that they are on disk.
 const NEAR: usize = 2;
+/// How many of them wait for its thread at most, before the next piece is fetched: so they are no second copy of all of it.
+const AHEAD: usize = 64;
 
 /// What a node is asked for by its handle.
 pub(crate) enum Request {
@@ -293,12 +295,65 @@ struct Beside {
     /// How many parts went there, and how many of them are on disk.
     sent: usize,
     written: usize,
+    /// How many of them are pieces: its first bytes, which the service has. So many bytes of these are still there.
+    pieces: usize,
+    lacking: u64,
+    /// What came meanwhile, and goes behind the pieces.
+    later: Vec<Vec<u8>>,
 }
 
 impl Beside {
-    /// Whether all but a little is on disk: the rest is waited for.
+    /// One whose first bytes, so many, are in the service.
+    fn new(number: u64, parts: Sender<Vec<u8>>, lacking: u64) -> Self {
+        Beside {
+            number,
+            parts,
+            sent: 0,
+            written: 0,
+            pieces: 0,
+            lacking,
+            later: Vec::new(),
+        }
+    }
+
+    fn send(&mut self, bytes: Vec<u8>) {
+        self.sent += 1;
+        // (if its thread has ended, it has said why)
+        let _ = self.parts.send(bytes);
+    }
+
+    fn add_piece(&mut self, bytes: Vec<u8>) {
+        self.pieces += 1;
+        self.lacking = self.lacking.saturating_sub(bytes.len() as u64);
+        self.send(bytes);
+        if self.lacking == 0 {
+            for bytes in std::mem::take(&mut self.later) {
+                self.send(bytes);
+            }
+        }
+    }
+
+    /// Bytes that go behind all others.
+    fn append(&mut self, bytes: Vec<u8>) {
+        match self.lacking {
+            0 => self.send(bytes),
+            _ => self.later.push(bytes),
+        }
+    }
+
+    /// Whether a piece is to be fetched: few parts wait for its thread.
+    fn wants_piece(&self) -> bool {
+        self.lacking > 0 && self.sent - self.written < AHEAD
+    }
+
+    /// Whether all that came for it is on disk.
+    fn is_written(&self) -> bool {
+        self.lacking == 0 && self.sent == self.written
+    }
+
+    /// Whether all but a little is on disk, and so all pieces: the rest is waited for.
     fn is_near(&self) -> bool {
-        self.written > 0 && self.sent - self.written <= NEAR
+        self.lacking == 0 && self.written >= self.pieces && self.sent - self.written <= NEAR
     }
 }
 
@@ -380,6 +435,7 @@ impl<N: Network> Runner<N> {
         mail.arrivals.clear();
         self.hand_in_rests()?;
         self.write()?;
+        self.fetch_piece()?;
         self.hurry()?;
         for request in mail.requests.drain(..) {
             if matches!(request, Request::Stop) {
@@ -394,7 +450,7 @@ impl<N: Network> Runner<N> {
 
     /// How long it waits for what comes.
     fn patience(&self) -> Duration {
-        if self.has_more {
+        if self.has_more || self.wants_piece() {
             Duration::ZERO
         } else {
             TICK.saturating_sub(self.clock.elapsed().saturating_sub(self.ticked))
@@ -441,35 +497,42 @@ impl<N: Network> Runner<N> {
         Ok(self.next.take())
     }
 
-    /// Begins a new log with these bytes. One that can't be written is done without: the old log goes on.
-    fn begin(&mut self, bytes: Vec<u8>) -> Result<(), Error> {
+    /// Begins a new log, whose first bytes end there. One that can't be written is done without: the old log goes on.
+    fn begin(&mut self, end: u64) -> Result<(), Error> {
         self.begun += 1;
         let (number, inbox) = (self.begun, self.inbox.clone());
         let (parts, to_write) = channel();
-        let begun = lock(&self.disk).begin(bytes.len() as u64).and_then(|log| {
+        let begun = lock(&self.disk).begin(end).and_then(|log| {
             let work = move || write_beside(log, number, &to_write, &inbox);
             thread::Builder::new().name("new log".into()).spawn(work)
         });
         if let Err(error) = begun {
             return self.give_up(&error);
         }
-        self.beside = Some(Beside {
-            number,
-            parts,
-            sent: 0,
-            written: 0,
-        });
-        self.append_next(bytes);
+        self.beside = Some(Beside::new(number, parts, end));
         Ok(())
     }
 
-    /// Bytes for the end of the new log.
-    fn append_next(&mut self, bytes: Vec<u8>) {
+    fn wants_piece(&self) -> bool {
+        self.beside.as_ref().is_some_and(Beside::wants_piece)
+    }
+
+    /// Fetches a piece of the new log, if it is time for that: one, so that nobody waits for all of a large one.
+    fn fetch_piece(&mut self) -> Result<(), Error> {
+        if self.wants_piece() && !self.take(Input::LogPiece)?.is_piece {
+            return Err(Error::Stopped("the service lacks bytes of a new log".into()));
+        }
+        Ok(())
+    }
+
+    /// Bytes for the new log: its next piece, or what goes behind all of them.
+    fn add_beside(&mut self, bytes: Vec<u8>, is_piece: bool) {
         if let Some(beside) = &mut self.beside {
-            beside.sent += 1;
             self.metrics.log_bytes.add(bytes.len() as u64);
-            // (if its thread has ended, it has said why)
-            let _ = beside.parts.send(bytes);
+            match is_piece {
+                true => beside.add_piece(bytes),
+                false => beside.append(bytes),
+            }
         }
     }
 
@@ -493,7 +556,7 @@ impl<N: Network> Runner<N> {
 
     /// Lets the new log take the old one's place, if all of it is on disk; says whether the log may be written.
     fn take_over(&mut self) -> Result<bool, Error> {
-        if self.beside.as_ref().is_none_or(|beside| beside.sent > beside.written) {
+        if !self.beside.as_ref().is_some_and(Beside::is_written) {
             return Ok(false);
         }
         self.beside = None;
@@ -672,7 +735,7 @@ impl<N: Network> Runner<N> {
 
     /// Calls the service, and takes what it puts out.
     fn take(&mut self, input: Input<'_>) -> Result<Came, Error> {
-        let (mut came, mut beside) = (Came::default(), None);
+        let (mut came, mut begun, mut beside) = (Came::default(), None, None);
         let outputs = match self.service.call(input)? {
             Ok(outputs) => outputs,
             Err(refusal) => {
@@ -699,14 +762,19 @@ impl<N: Network> Runner<N> {
                     let change = Change::TakeOver;
                     self.next = Some(Write { change, end });
                 }
-                Output::NewLog(bytes) => beside = Some((true, bytes.to_vec())),
-                Output::AppendNext(bytes) => beside = Some((false, bytes.to_vec())),
+                Output::NewLog(end) => begun = Some(end),
+                Output::LogPiece(bytes) => {
+                    came.is_piece = true;
+                    beside = Some(bytes.to_vec());
+                }
+                Output::AppendNext(bytes) => beside = Some(bytes.to_vec()),
             }
         }
-        match beside {
-            Some((true, bytes)) => self.begin(bytes)?,
-            Some((false, bytes)) => self.append_next(bytes),
-            None => {}
+        if let Some(end) = begun {
+            self.begin(end)?;
+        }
+        if let Some(bytes) = beside {
+            self.add_beside(bytes, came.is_piece);
         }
         Ok(came)
     }
@@ -748,6 +816,7 @@ impl<N: Network> Handler for Runner<N> {
 struct Came {
     taken: usize,
     is_more: bool,
+    is_piece: bool,
     status: Option<Status>,
     refused: Option<String>,
 }
@@ -757,4 +826,45 @@ fn mixed(state: u64) -> u64 {
     let mixed = (state ^ (state >> 30)).wrapping_mul(0xBF58_476D_1CE4_E5B9);
     let mixed = (mixed ^ (mixed >> 27)).wrapping_mul(0x94D0_49BB_1331_11EB);
     mixed ^ (mixed >> 31)
+}
+
+#[cfg(test)]
+mod tests {
+    use super::*;
+
+    #[test]
+    fn what_comes_for_a_new_log_goes_behind_all_of_its_pieces() {
+        let (parts, to_write) = channel();
+        let mut beside = Beside::new(1, parts, 5);
+        beside.append(vec![6, 7]);
+        beside.add_piece(vec![1, 2, 3]);
+        beside.append(vec![8]);
+        beside.written = 1;
+        // (what came later waits for a piece)
+        assert!(beside.wants_piece() && !beside.is_near() && !beside.is_written());
+        beside.add_piece(vec![4, 5]);
+        beside.append(vec![9]);
+        assert_eq!(
+            to_write.try_iter().collect::<Vec<_>>().concat(),
+            [1, 2, 3, 4, 5, 6, 7, 8, 9]
+        );
+        assert!(!beside.wants_piece() && !beside.is_near());
+        beside.written = 3;
+        assert!(beside.is_near() && !beside.is_written());
+        beside.written = 5;
+        assert!(beside.is_written());
+    }
+
+    #[test]
+    fn no_piece_is_fetched_while_many_wait_for_the_disk() {
+        let (parts, _to_write) = channel();
+        let mut beside = Beside::new(1, parts, 1000);
+        for _ in 0..AHEAD {
+            assert!(beside.wants_piece());
+            beside.add_piece(vec![0]);
+        }
+        assert!(!beside.wants_piece());
+        beside.written += 1;
+        assert!(beside.wants_piece());
+    }
 }

@@ -16,7 +16,7 @@ extern "C" {
 }
 
 /// The version of the library that this is written for.
-const VERSION: u32 = 4;
+const VERSION: u32 = 5;
 /// A buffer above this size is given back after its call.
 const KEPT: usize = 4 << 20;
 
@@ -47,6 +47,7 @@ pub(crate) enum Input<'a> {
     Idle,
     TakeOver,
     GiveUpLog,
+    LogPiece,
 }
 
 /// What comes of it.
@@ -60,9 +61,11 @@ pub(crate) enum Output<'a> {
         end: u64,
         bytes: &'a [u8],
     },
-    /// The first bytes of a new log, beside the old one.
-    NewLog(&'a [u8]),
-    /// Those of the [`Output::Append`] before it, for the new log.
+    /// A new log beside the old one: its first bytes come in pieces, and end there.
+    NewLog(u64),
+    /// The next of them.
+    LogPiece(&'a [u8]),
+    /// Those of the [`Output::Append`] before it, for the new log, behind all pieces.
     AppendNext(&'a [u8]),
     /// The new log has the old one's place, and ends there.
     TakenOver(u64),
@@ -104,6 +107,7 @@ mod kind {
     pub const MORE: u32 = 10;
     pub const APPEND_NEXT: u32 = 11;
     pub const TAKEN_OVER: u32 = 12;
+    pub const LOG_PIECE: u32 = 13;
 }
 
 mod code {
@@ -264,6 +268,7 @@ impl Service {
             Input::Idle => self.exchange(14, 0, 0, &[]),
             Input::TakeOver => self.exchange(15, 0, 0, &[]),
             Input::GiveUpLog => self.exchange(16, 0, 0, &[]),
+            Input::LogPiece => self.exchange(17, 0, 0, &[]),
         };
         match code {
             0 => Ok(Ok(Outputs(&self.out[..self.count]))),
@@ -301,7 +306,8 @@ impl<'a> Iterator for Outputs<'a> {
                         bytes: body,
                     })
                 }
-                kind::NEW_LOG => return Some(Output::NewLog(body)),
+                kind::NEW_LOG => return Some(Output::NewLog(number)),
+                kind::LOG_PIECE => return Some(Output::LogPiece(body)),
                 kind::APPEND_NEXT => return Some(Output::AppendNext(body)),
                 kind::TAKEN_OVER => return Some(Output::TakenOver(number)),
                 kind::CLIENT => return Some(Output::Client { client, bytes: body }),
@@ -526,7 +532,8 @@ mod tests {
     fn a_new_log_is_put_out_beside_others() {
         let mut bytes = Vec::new();
         for (kind, number, body) in [
-            (kind::NEW_LOG, 3, &b"new"[..]),
+            (kind::NEW_LOG, 3, &b""[..]),
+            (kind::LOG_PIECE, 0, b"new"),
             (kind::APPEND, 5, b"er"),
             (kind::APPEND_NEXT, 0, b"er"),
             (kind::TAKEN_OVER, 5, b""),
@@ -537,7 +544,8 @@ mod tests {
             bytes.extend_from_slice(body);
         }
         let mut outputs = Outputs(&bytes);
-        assert!(matches!(outputs.next(), Some(Output::NewLog(b"new"))));
+        assert!(matches!(outputs.next(), Some(Output::NewLog(3))));
+        assert!(matches!(outputs.next(), Some(Output::LogPiece(b"new"))));
         assert!(matches!(outputs.next(), Some(Output::Append { end: 5, bytes: b"er" })));
         assert!(matches!(outputs.next(), Some(Output::AppendNext(b"er"))));
         assert!(matches!(outputs.next(), Some(Output::TakenOver(5))));

@@ -753,6 +753,35 @@ fn a_new_log_is_written_while_the_old_one_goes_on() {
 }
 
 #[test]
+fn a_new_log_of_many_pieces_has_what_came_between_them() {
+    const LARGE: usize = 600_000;
+    let slow = Slow::default();
+    let closed = slow.beside.lock().unwrap();
+    let mut member = alone(slow.clone(), 20 << 20);
+    let large = |key: u32| format!("{key:06}").repeat(LARGE / 6);
+    for key in 10..60 {
+        let set = format!("*3\r\n$3\r\nSET\r\n$2\r\n{key}\r\n${LARGE}\r\n{}\r\n", large(key));
+        assert_eq!(member.ask(&set), "+OK\r\n");
+    }
+    // so few of its pieces wait for the disk that most are still to come
+    member.fill(100..150);
+    assert_eq!(slow.generation(), 0);
+    drop(closed);
+    member.fill(150..200);
+    wait_for("the new log has its place", || (slow.generation() > 0).then_some(()));
+    member.fill(200..220);
+    member.running.stop().unwrap();
+    assert!(slow.clone().read().unwrap().len() > 50 * LARGE);
+    let mut member = alone(slow.clone(), 1 << 30);
+    member.assert_filled(100..220);
+    for key in 10..60 {
+        let answer = member.ask_for(&format!("GET {key}\r\n"), 2);
+        assert!(answer == format!("${LARGE}\r\n{}\r\n", large(key)), "{key}");
+    }
+    member.running.stop().unwrap();
+}
+
+#[test]
 fn a_new_log_without_room_is_given_up_and_begun_again() {
     let slow = Slow::default();
     slow.is_full.store(true, Ordering::Relaxed);

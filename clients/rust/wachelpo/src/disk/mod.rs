@@ -27,8 +27,9 @@ pub trait Disk: Send {
     /// given up.
     fn begin(&mut self, count: u64) -> io::Result<Box<dyn NewLog>>;
 
-    /// The new log has this one's place once this returns, with all that was appended to it, as surely as what is appended to this one, and
-    /// the old one is gone. A crash before leaves one of the two, whole. After an error nothing is called again, as for [`Disk::append`].
+    /// The new log has this one's place once this returns, with all that was appended to it, as surely as what is appended to this one. What
+    /// the old one takes of the disk may be given back later, so that nothing waits for that. A crash before leaves one of the two, whole.
+    /// After an error nothing is called again, as for [`Disk::append`].
     fn take_over(&mut self) -> io::Result<()>;
 
     /// The new log is given up, if one was begun: this one goes on alone.

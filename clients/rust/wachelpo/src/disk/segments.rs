@@ -3,7 +3,8 @@
 //! is full.
 //!
 //! A new log is written beside the old one, into a file that takes the old one's place by the name that it gets then: a start reads the
-//! files of the newest log, and removes all others.
+//! files of the newest log, and removes all others. While a node runs, the files of the log before go little by little, on a thread of
+//! their own.
 
 use crate::disk::aside::Aside;
 use crate::disk::blocks::{Blocks, BLOCK};
@@ -13,7 +14,7 @@ use std::io::{self, Read, Seek, SeekFrom};
 use std::os::fd::AsRawFd;
 use std::os::unix::fs::FileExt;
 use std::path::{Path, PathBuf};
-use std::sync::atomic::{AtomicUsize, Ordering};
+use std::sync::atomic::{AtomicBool, AtomicUsize, Ordering};
 use std::sync::mpsc::{sync_channel, Receiver, SyncSender, TrySendError};
 use std::sync::{Arc, Mutex, PoisonError};
 use std::thread::{self, JoinHandle};
@@ -32,6 +33,12 @@ const BEGUN: &str = "begun";
 const CHUNK: usize = 1 << 20;
 /// How long it takes until a full disk is tried again.
 const PAUSE: Duration = Duration::from_secs(1);
+/// How often it is tried while files of an old log make room.
+const AGAIN: Duration = Duration::from_millis(50);
+/// How many bytes of an old log's file are removed at a time, and how long it takes until the next ones are: with more of the one or less of
+/// the other, what is flushed meanwhile waits longer. (A gigabyte at once holds a disk up for a second.)
+const REMOVED: u64 = 1 << 20;
+const REST: Duration = Duration::from_millis(4);
 
 /// A log in files `log.000000`, `log.000001` and so on. The first one that takes its place is in `log.000001.000000`,
 /// `log.000001.000001` and so on, the next one in `log.000002.000000`.
@@ -49,6 +56,7 @@ const PAUSE: Duration = Duration::from_secs(1);
 /// log.begin(11)?.append(b"another one")?;
 /// log.take_over()?;
 /// assert!(Segments::new(&folder).read()?.starts_with(b"another one\0"));
+/// # drop(log); // (its threads make and remove files)
 /// # std::fs::remove_dir_all(&folder)?;
 /// # Ok::<(), std::io::Error>(())
 /// ```
@@ -64,6 +72,8 @@ pub struct Segments {
     is_begun: bool,
     open: Option<Segment>,
     ahead: Option<Ahead>,
+    /// The log before this one, which goes.
+    before: Option<Removal>,
     /// The new log beside this one.
     next: Option<Arc<Mutex<Aside>>>,
 }
@@ -91,7 +101,7 @@ struct Ahead {
 }
 
 impl Ahead {
-    fn start(folder: &Path, generation: u64, first: usize, size: u64) -> io::Result<Self> {
+    fn start(folder: &Path, generation: u64, first: usize, size: u64, frees: Arc<AtomicBool>) -> io::Result<Self> {
         let (to, ready) = sync_channel(0);
         let last = Arc::new(AtomicUsize::new(usize::MAX));
         let filler = Filler {
@@ -99,6 +109,7 @@ impl Ahead {
             generation,
             size,
             last: last.clone(),
+            frees,
             ready: to,
         };
         let thread = thread::Builder::new()
@@ -132,6 +143,68 @@ impl Drop for Ahead {
             let _ = thread.join();
         }
     }
+}
+
+/// The thread that removes the files of other logs, little by little. It ends with this value.
+struct Removal {
+    /// Whether it is at work, and so makes room.
+    frees: Arc<AtomicBool>,
+    thread: Option<JoinHandle<()>>,
+}
+
+impl Removal {
+    fn start(folder: &Path, generation: u64) -> io::Result<Self> {
+        let frees = Arc::new(AtomicBool::new(true));
+        let (folder, goes_on) = (folder.to_path_buf(), frees.clone());
+        let work = move || {
+            let rest = |count: u64| {
+                thread::sleep(REST.mul_f64(count as f64 / REMOVED as f64));
+                goes_on.load(Ordering::SeqCst)
+            };
+            if let Err(error) = remove_others(&folder, generation, rest) {
+                log::error!("log: files of the one before take room until the next start: {error}");
+            }
+            goes_on.store(false, Ordering::SeqCst);
+        };
+        let thread = thread::Builder::new().name("remove".into()).spawn(work)?;
+        Ok(Removal {
+            frees,
+            thread: Some(thread),
+        })
+    }
+}
+
+impl Drop for Removal {
+    fn drop(&mut self) {
+        self.frees.store(false, Ordering::SeqCst);
+        if let Some(thread) = self.thread.take() {
+            let _ = thread.join();
+        }
+    }
+}
+
+/// Removes the files of other logs than that of this generation, little by little: as long as it may go on, which is asked after so many
+/// bytes each time.
+fn remove_others(folder: &Path, generation: u64, mut may_go_on: impl FnMut(u64) -> bool) -> io::Result<()> {
+    for file in files(folder)? {
+        if file.generation == generation {
+            continue;
+        }
+        let path = path(folder, file.generation, file.number);
+        let mut left = file.length;
+        while left > REMOVED {
+            left -= REMOVED;
+            OpenOptions::new().write(true).open(&path)?.set_len(left)?;
+            if !may_go_on(REMOVED) {
+                return Ok(());
+            }
+        }
+        fs::remove_file(&path)?;
+        if !may_go_on(left) {
+            return Ok(());
+        }
+    }
+    Ok(())
 }
 
 /// The file that is written.
@@ -207,7 +280,11 @@ fn files(folder: &Path) -> io::Result<Vec<Found>> {
     for entry in fs::read_dir(folder)? {
         let entry = entry?;
         if let Some((generation, number)) = entry.file_name().to_str().and_then(parse) {
-            let length = entry.metadata()?.len();
+            let length = match entry.metadata() {
+                // (one of an old log, which goes)
+                Err(error) if error.kind() == io::ErrorKind::NotFound => continue,
+                metadata => metadata?.len(),
+            };
             found.push(Found {
                 generation,
                 number,
@@ -305,6 +382,8 @@ struct Filler {
     generation: u64,
     size: u64,
     last: Arc<AtomicUsize>,
+    /// Whether room is being made on the disk.
+    frees: Arc<AtomicBool>,
     ready: SyncSender<io::Result<File>>,
 }
 
@@ -313,9 +392,14 @@ impl Filler {
     fn fill_once_there_is_room(&self, number: usize) -> io::Result<File> {
         let mut is_told = false;
         loop {
+            let frees = self.frees.load(Ordering::SeqCst);
             let filled = fill(&self.folder, &name(self.generation, number), self.size);
             if !filled.as_ref().is_err_and(is_full) {
                 return filled;
+            }
+            if frees {
+                thread::sleep(AGAIN);
+                continue;
             }
             if !is_told {
                 is_told = true;
@@ -366,6 +450,7 @@ impl Segments {
             is_begun: false,
             open: None,
             ahead: None,
+            before: None,
             next: None,
         }
     }
@@ -425,9 +510,20 @@ impl Segments {
     fn ahead(&mut self, number: usize) -> io::Result<&Ahead> {
         let ahead = match self.ahead.take() {
             Some(ahead) => ahead,
-            None => Ahead::start(&self.folder, self.generation, number, self.size)?,
+            None => self.start_ahead(number)?,
         };
         Ok(self.ahead.insert(ahead))
+    }
+
+    fn start_ahead(&self, number: usize) -> io::Result<Ahead> {
+        let frees = self.before.as_ref().map(|it| it.frees.clone());
+        Ahead::start(
+            &self.folder,
+            self.generation,
+            number,
+            self.size,
+            frees.unwrap_or_default(),
+        )
     }
 
     /// Waits for the file that was filled ahead.
@@ -464,14 +560,8 @@ impl Segments {
         Ok(Aside::of(&next, file, length, self.size))
     }
 
-    /// Removes the files of other logs, and one that isn't whole.
-    fn remove_others(&self, after: &mut impl FnMut()) -> io::Result<()> {
-        for file in files(&self.folder)? {
-            if file.generation != self.generation {
-                fs::remove_file(path(&self.folder, file.generation, file.number))?;
-                after();
-            }
-        }
+    /// Removes files that aren't whole.
+    fn remove_parts(&self) -> io::Result<()> {
         for name in [ASIDE, NEXT] {
             match fs::remove_file(self.folder.join(name)) {
                 Err(error) if error.kind() != io::ErrorKind::NotFound => return Err(error),
@@ -498,9 +588,11 @@ impl Segments {
         self.lengths = vec![aside.length];
         self.open = Some(self.segment(aside.file.try_clone()?, 0, aside.length, aside.used));
         self.note_begun()?;
-        self.remove_others(&mut after)?;
-        // (if there is no thread for it now, there is one once it is needed)
-        self.ahead = Ahead::start(&self.folder, self.generation, 1, self.size).ok();
+        self.remove_parts()?;
+        self.before = None;
+        // (if there are no threads for these now: what is left is removed with this log, and there is one once a file is needed)
+        self.before = Removal::start(&self.folder, self.generation).ok();
+        self.ahead = self.start_ahead(1).ok();
         Ok(())
     }
 }
@@ -530,7 +622,8 @@ impl Disk for Segments {
         }
         // a log that a stop has left in its place may not be there durably yet
         sync(&self.folder)?;
-        self.remove_others(&mut || {})?;
+        remove_others(&self.folder, self.generation, |_| true)?;
+        self.remove_parts()?;
         let mut start = 0;
         for (number, length) in self.lengths.clone().into_iter().enumerate() {
             let used = end.saturating_sub(start).min(length);
@@ -808,7 +901,7 @@ mod tests {
             reopened_with(size, scratch.path(), 0).append(&old).unwrap();
             let log = reopened_with(size, scratch.path(), end as u64);
             let states = steps(log, &new);
-            assert!(states.len() > PLACED);
+            assert_eq!(states.len(), PLACED);
             for (step, state) in (1..).zip(&states) {
                 // (the name is there before it is durable)
                 let bytes = if step > WRITTEN { &new } else { &old[..end] };
@@ -856,15 +949,58 @@ mod tests {
         let placed = states[PLACED - 1].path();
         let mut old = files(placed).unwrap();
         old.retain(|file| file.generation == 0);
-        assert_eq!(states.len(), PLACED + old.len());
+        assert!(!old.is_empty());
         for left in 0..1 << old.len() {
             let state = copy(placed, &format!("any-{left}"));
             let is_gone = |place: &usize| left >> place & 1 == 0;
-            for place in (0..old.len()).filter(is_gone) {
-                fs::remove_file(path(state.path(), 0, old[place].number)).unwrap();
+            for place in 0..old.len() {
+                let path = path(state.path(), 0, old[place].number);
+                match is_gone(&place) {
+                    true => fs::remove_file(path).unwrap(),
+                    // (one may have lost its end)
+                    false => fs::write(path, [7; 50]).unwrap(),
+                }
             }
             assert_goes_on(100, state.path(), &[8; 30], &format!("files {left:b}"));
         }
+    }
+
+    #[test]
+    fn what_replaces_a_log_has_the_disk_to_itself_soon() {
+        let scratch = Scratch::new("soon");
+        let mut log = reopened(scratch.path(), 0);
+        log.append(&[7; 350]).unwrap();
+        replace(&mut log, &[&[8; 30]]);
+        let is_old = |file: &Found| file.generation == 0;
+        let until = std::time::Instant::now() + Duration::from_secs(30);
+        while files(scratch.path()).unwrap().iter().any(is_old) {
+            assert!(std::time::Instant::now() < until);
+            thread::sleep(REST);
+        }
+        drop(log);
+        assert_goes_on(100, scratch.path(), &[8; 30], "soon");
+    }
+
+    #[test]
+    fn a_large_file_of_an_old_log_is_removed_little_by_little() {
+        let scratch = Scratch::new("little");
+        let large = path(scratch.path(), 0, 0);
+        File::create(&large).unwrap().set_len(2 * REMOVED + 5).unwrap();
+        fs::write(path(scratch.path(), 0, 1), [7; 100]).unwrap();
+        fs::write(path(scratch.path(), 1, 0), [8; 100]).unwrap();
+        let mut lengths = Vec::new();
+        let mut remove = |most: usize| {
+            lengths.clear();
+            let note = |count| {
+                lengths.push((count, fs::metadata(&large).map_or(0, |it| it.len())));
+                lengths.len() < most
+            };
+            remove_others(scratch.path(), 1, note).unwrap();
+            lengths.clone()
+        };
+        assert_eq!(remove(1), [(REMOVED, REMOVED + 5)]);
+        assert_eq!(remove(9), [(REMOVED, 5), (5, 0), (100, 0)]);
+        assert_goes_on(100, scratch.path(), &[8; 100], "little");
     }
 
     #[test]
@@ -882,7 +1018,7 @@ mod tests {
     #[test]
     fn files_are_made_until_the_last_one() {
         let scratch = Scratch::new("last");
-        let ahead = Ahead::start(scratch.path(), 0, 0, 100).unwrap();
+        let ahead = Ahead::start(scratch.path(), 0, 0, 100, Arc::default()).unwrap();
         // as if its thread hadn't noticed yet that the first one was taken
         ahead.end_with(1);
         ahead.next().unwrap();
