@@ -952,13 +952,12 @@ mod tests {
         assert!(!old.is_empty());
         for left in 0..1 << old.len() {
             let state = copy(placed, &format!("any-{left}"));
-            let is_gone = |place: &usize| left >> place & 1 == 0;
-            for place in 0..old.len() {
-                let path = path(state.path(), 0, old[place].number);
-                match is_gone(&place) {
-                    true => fs::remove_file(path).unwrap(),
-                    // (one may have lost its end)
-                    false => fs::write(path, [7; 50]).unwrap(),
+            for (place, file) in old.iter().enumerate() {
+                let path = path(state.path(), 0, file.number);
+                match left >> place & 1 {
+                    0 => fs::remove_file(path).unwrap(),
+                    // (it may have lost its end)
+                    _ => fs::write(path, [7; 50]).unwrap(),
                 }
             }
             assert_goes_on(100, state.path(), &[8; 30], &format!("files {left:b}"));
