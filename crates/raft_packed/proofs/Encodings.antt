@@ -1,6 +1,6 @@
 -- Steps of an encoding.
 use Rattle.std.proofs.Common.{ℕ, ◌≡◌, ◌≤◌, ◌∙◌, List, [], ◌++◌, ap, arith, inl, inr, length, refl, subst, sym, take, take-add, take_all}
-use Rattle.std.specs.Prelude.{◌⊎◌, ◌+◌, ◌-◌}
+use Rattle.std.specs.Prelude.{◌-◌}
 use Rattle.std.specs.List.{slice_range}
 use Rattle.std.proofs.lemmas.List.{append-nil}
 use Rattle.raft_codec.specs.Codec.{Codec}
@@ -13,7 +13,7 @@ use Rattle.raft_packed.specs.declared.encoding.Progress.{Progress}
 use Rattle.raft_packed.specs.declared.encoding.Progress.TheVariants.{Encoded, Summed}
 use Rattle.raft_packed.specs.declared.place.Place.{Place}
 use Rattle.raft_packed.specs.declared.place.Place.TheVariants.{Front, End}
-use Rattle.raft_packed.specs.Encodings.{BeginsSum, IsAt, IsBegun, IsFinished, IsOf, IsReached, IsSummed, IsUpto, sum_upto}
+use Rattle.raft_packed.specs.Encodings.{IsAt, IsBegun, IsFinished, IsOf, IsReached, IsSummed, IsUpto}
 
 -- the front of bytes up to one place, and then up to another
 pub taken_on : (a b : ℕ) (bytes : List ℕ) → a ≤ b → take a bytes ++ slice_range bytes a b ≡ take b bytes

@@ -1,13 +1,13 @@
 -- A server goes on with a new log.
 use Rattle.std.proofs.Common.{ℕ, ◌≡◌, ◌≤◌, ◌∙◌, ◌++◌, List, [], ◌∷◌, length, refl, sym, ap, subst, append_assoc, inr}
-use Rattle.std.specs.Prelude.{Err, IfErr, IfOk, None, Ok, Option, Result, Some, map}
+use Rattle.std.specs.Prelude.{None, Option, Some, map}
 use Rattle.std.proofs.lemmas.List.{append-nil}
 use Rattle.raft_frames.specs.declared.header.LogId.{LogId}
 use Rattle.raft_frames.specs.declared.tail.Tail.{Tail}
 use Rattle.raft_frames.specs.Format.{after, after_all, frame, header, start}
 use Rattle.raft_frames.specs.Laws.{IsPayload}
 use Rattle.raft_codec.specs.Codec.{Codec, IsCodec}
-use Rattle.proof_logs.specs.Batches.{IsBatchOf, bytes_of, file_of}
+use Rattle.proof_logs.specs.Batches.{bytes_of}
 use Rattle.raft_packed_server.specs.Fits.{FitFrom, FitsAt}
 use Rattle.proof_packed.specs.Stores.{Application}
 use Rattle.raft_packed_wire.specs.Checkpoints.{checkpoint, named_rest, named_snapshot}

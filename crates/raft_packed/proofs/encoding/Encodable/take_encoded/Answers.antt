@@ -1,4 +1,4 @@
-use Rattle.std.proofs.Common.{List, ℕ, ◌≡◌, ◌∙◌, Option, Some, subst, sym}
+use Rattle.std.proofs.Common.{Option, subst, sym}
 use Rattle.raft_packed.specs.declared.encoding.Encoding.{Encoding}
 use Rattle.raft_packed.specs.Encodings.{IsOf, IsOfSome}
 use Rattle.raft_packed.proofs.Encodings.{finished_is}
