@@ -141,7 +141,7 @@ impl Builder {
     }
 
     /// How long a node hears nothing of a leader before it asks for votes: at least two heartbeats. By default a second, and up to as much
-    /// more by chance.
+    /// more by chance. All nodes of a cluster have the same.
     pub fn election_timeout(mut self, timeout: Duration) -> Self {
         self.election_timeout = timeout;
         self

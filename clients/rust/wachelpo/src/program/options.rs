@@ -30,7 +30,7 @@ usage: wachelpo serve --id ID --data DIR --listen HOST:PORT [--peer ID=HOST:PORT
   --metrics H:P     where / is a page and /metrics has the metrics, over HTTP
   --secret FILE     what the nodes share: without it only loopback addresses are listened on
   --password FILE   what clients must say by AUTH: without it clients are only listened for on a loopback address
-  --election-timeout MS  how long a node hears nothing of a leader before it asks for votes (by default 1000)
+  --election-timeout MS  how long a node hears nothing of a leader before it asks for votes, the same at each node (by default 1000)
   --client-timeout S     how long a client may be silent (0: for ever, as by default)
   --snapshot-entries N   after how many entries the next snapshot is made, the same at each node; 0: never (by default 500)
   --kept-entries N       how many entries of a snapshot are kept for nodes that lack few, the same at each node (by default 10000)
