@@ -7,8 +7,9 @@
  * another service can have. The library allocates through liblibc_c.a of the Rattle kit (in its folder c/), which calls the program's
  * malloc, realloc and free: the three belong to one allocator, and align to 16 bytes.
  *
- * Threads. A node is given to one call at a time, on the thread that made it; not from a signal handler, nor in the forked child of a
- * process with threads.
+ * Threads. A node is given to one call at a time, on any thread, if each call happens before the next, as by a lock or by a thread's start
+ * or end: nodes share nothing, and the library keeps nothing for a thread. Not from a signal handler, nor in the forked child of a process
+ * with threads.
  *
  * What C can't notice, and a caller owes: a node is one that wachelpo_node has written; a pointer to bytes isn't null, also if there are
  * none; the bytes stay as they are during the call.
@@ -25,7 +26,8 @@
 /* Inputs: what `first`, `second` and the bytes of a call are. A number of bytes is eight bytes, the lowest first. */
 enum wachelpo_input {
     WACHELPO_SETTINGS = 1,   /* bytes: the settings, see below */
-    WACHELPO_OPEN = 2,       /* bytes: the log, which may be empty. Puts out OPENED */
+    WACHELPO_OPEN = 2,       /* bytes: the log, which may be empty: what no crash loses any more, so its file is synced before it is read.
+                                Puts out OPENED */
     WACHELPO_PEER = 3,       /* bytes: a frame that a peer sent. The caller knows that a server of the cluster sent it */
     WACHELPO_TICK = 4,       /* first: moments since the last tick, second: a random number, bytes: the time in Unix milliseconds */
     WACHELPO_CONNECT = 5,    /* first: a client's number, greater than all before it */
@@ -82,7 +84,8 @@ enum wachelpo_code {
 };
 
 /* Settings: numbers of eight bytes, the lowest first, and bytes behind their number, in this order. Times are in moments, which
- * are as long as the caller's ticks say: 0.1 ms, say, since a query that adds nothing to the log waits for one.
+ * are as long as the caller's ticks say: 0.1 ms, say, since a query that adds nothing to the log waits for one. Up to the entries that
+ * are kept they are the same at each server and start of a cluster, but for the own id, hosts and ports.
  *
  *   2                                         the version of this form
  *   cluster, own id

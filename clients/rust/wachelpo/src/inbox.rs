@@ -81,6 +81,7 @@ impl State {
 struct Shared {
     state: Mutex<State>,
     is_there: Condvar,
+    /// Whoever handles mail holds this lock: so each call of the service happens before the next, on whatever thread.
     work: Mutex<Option<Work>>,
 }
 

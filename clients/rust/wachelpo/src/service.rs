@@ -128,7 +128,8 @@ pub(crate) struct Service {
     count: usize,
 }
 
-// SAFETY: nodes are independent of one another and of threads; each call takes the only reference there is.
+// SAFETY: a node shares nothing with another one, and the library keeps nothing for a thread. A call takes the only reference there is, so
+// each happens before the next.
 unsafe impl Send for Service {}
 
 impl Drop for Service {

@@ -13,7 +13,7 @@ use std::sync::{Arc, Mutex, MutexGuard, PoisonError};
 
 /// A log of bytes, which are appended and then stay.
 pub trait Disk: Send {
-    /// All bytes of the log. Zeros may stand behind its end.
+    /// All bytes of the log, which no crash loses any more. Zeros may stand behind its end.
     fn read(&mut self) -> io::Result<Vec<u8>>;
 
     /// Cuts off what stands behind this byte, so that it isn't read again. Called once, before anything is appended.
