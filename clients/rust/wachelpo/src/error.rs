@@ -24,6 +24,8 @@ pub enum Error {
     Io(io::Error),
     /// Another node leads, or none, as far as this one knows.
     NotLeader(Option<NodeId>),
+    /// Another node refuses this one, for what it has lost: the text says why. It doesn't go on: what it promised isn't in its folder.
+    KeptOut(NodeId, String),
     /// The node has ended.
     Ended,
 }
@@ -58,6 +60,10 @@ impl fmt::Display for Error {
             Error::Io(error) => error.fmt(f),
             Error::NotLeader(Some(id)) => write!(f, "node {id} leads"),
             Error::NotLeader(None) => write!(f, "no leader is known"),
+            Error::KeptOut(by, why) => write!(
+                f,
+                "node {by} refuses this node: {why}; this folder can't be used any more, and a node of a new id takes its place"
+            ),
             Error::Ended => write!(f, "the node has ended"),
         }
     }

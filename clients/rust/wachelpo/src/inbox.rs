@@ -37,11 +37,14 @@ pub(crate) struct Mail {
     /// How many parts of a new log are on disk, and which log that is.
     pub written: Option<Written>,
     pub requests: Vec<Request>,
+    /// Why the node doesn't go on.
+    pub end: Option<Error>,
 }
 
 impl Mail {
     fn is_empty(&self) -> bool {
-        self.arrivals.is_empty() && self.flush.is_none() && self.written.is_none() && self.requests.is_empty()
+        let has_none = self.flush.is_none() && self.written.is_none() && self.end.is_none();
+        self.arrivals.is_empty() && has_none && self.requests.is_empty()
     }
 }
 
@@ -181,6 +184,16 @@ impl Inbox {
 
     pub(crate) fn written(&self, written: Written) {
         self.state().mail.written = Some(written);
+        self.0.is_there.notify_one();
+    }
+
+    /// Ends the node, before it handles anything more.
+    pub(crate) fn fail(&self, why: Error) {
+        let mut state = self.state();
+        if !state.has_ended {
+            state.mail.end = Some(why);
+        }
+        drop(state);
         self.0.is_there.notify_one();
     }
 

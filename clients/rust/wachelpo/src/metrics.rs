@@ -2,6 +2,7 @@
 
 use crate::disk::Position;
 use crate::{NodeId, Role, Status};
+use std::collections::BTreeMap;
 use std::fmt::{self, Write};
 use std::sync::atomic::{AtomicU64, Ordering};
 use std::sync::{Mutex, PoisonError};
@@ -102,6 +103,8 @@ pub struct Metrics {
     /// How many bytes for clients wait.
     pub(crate) client_bytes_waiting: Counter,
     pub(crate) peers: Counter,
+    /// The nodes that are refused for what they have lost, and why.
+    refused: Mutex<BTreeMap<NodeId, String>>,
 }
 
 impl Metrics {
@@ -125,6 +128,7 @@ impl Metrics {
             connections_overrun: Counter::default(),
             client_bytes_waiting: Counter::default(),
             peers: Counter::default(),
+            refused: Mutex::default(),
         }
     }
 
@@ -148,6 +152,20 @@ impl Metrics {
     /// How far the log is on disk.
     pub(crate) fn log(&self) -> Position {
         *self.log.lock().unwrap_or_else(PoisonError::into_inner)
+    }
+
+    /// Notes whether another node is refused for what it has lost, and why.
+    pub(crate) fn note_peer(&self, id: NodeId, refusal: Option<String>) {
+        let mut refused = self.refused.lock().unwrap_or_else(PoisonError::into_inner);
+        match refusal {
+            Some(why) => refused.insert(id, why),
+            None => refused.remove(&id),
+        };
+    }
+
+    /// The nodes that are refused for what they have lost, and why.
+    pub(crate) fn refused(&self) -> BTreeMap<NodeId, String> {
+        self.refused.lock().unwrap_or_else(PoisonError::into_inner).clone()
     }
 
     /// What the node said of itself last, within half a second.
@@ -222,6 +240,11 @@ impl Metrics {
                 log.generation,
             ),
             ("peers", "Nodes that this one is connected to.", self.peers.get()),
+            (
+                "peers_refused",
+                "Nodes that this one refuses for what they have lost.",
+                self.refused().len() as u64,
+            ),
         ];
         if let Some(status) = self.status() {
             gauges.extend([
@@ -273,6 +296,9 @@ impl Metrics {
                 "# HELP wachelpo_{name} {help}\n# TYPE wachelpo_{name} gauge\nwachelpo_{name} {value}"
             )?;
         }
+        for (id, why) in self.refused() {
+            writeln!(out, "wachelpo_peer_refused{{node=\"{id}\",why={why:?}}} 1")?;
+        }
         for (name, help, counter) in self.counters() {
             let value = counter.get();
             writeln!(
@@ -313,6 +339,9 @@ impl Metrics {
                     status.role, status.term
                 )?;
             }
+        }
+        for (id, why) in self.refused() {
+            writeln!(out, "<p><b>Node {id} is refused</b>: {why}</p>")?;
         }
         writeln!(out, "<table>")?;
         let gauges = self.gauges().into_iter().filter(|(name, ..)| !HEADED.contains(name));

@@ -417,6 +417,9 @@ struct Runner<N> {
 impl<N: Network> Runner<N> {
     /// Handles all that has come, then lets the service write, then delivers; and says whether that was all.
     fn take_turn(&mut self, mail: &mut Mail) -> Result<ControlFlow<()>, Error> {
+        if let Some(why) = mail.end.take() {
+            return Err(why);
+        }
         if let Some(written) = mail.written.take() {
             self.written(written)?;
         }
@@ -714,8 +717,10 @@ impl<N: Network> Runner<N> {
 
     fn status(&mut self) -> Result<Status, Error> {
         let came = self.take(Input::Status)?;
-        came.status
-            .ok_or_else(|| Error::Stopped("the service answers no status".into()))
+        let status = came.status;
+        let mut status = status.ok_or_else(|| Error::Stopped("the service answers no status".into()))?;
+        status.refused = self.metrics.refused();
+        Ok(status)
     }
 
     /// Notes the status for metrics, now and then.

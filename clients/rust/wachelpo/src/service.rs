@@ -3,6 +3,7 @@
 use crate::settings::Builder;
 use crate::status::{Members, Role, Status};
 use crate::{ClientId, Error, NodeId};
+use std::collections::BTreeMap;
 use std::ffi::c_void;
 use std::ptr;
 use std::time::Duration;
@@ -490,6 +491,7 @@ fn status_of(body: &[u8]) -> Option<Status> {
         },
         clients: numbers.number()?,
         requests: numbers.number()?,
+        refused: BTreeMap::new(),
     })
 }
 

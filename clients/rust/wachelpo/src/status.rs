@@ -1,6 +1,7 @@
 //! What a node knows of itself and its cluster.
 
 use crate::NodeId;
+use std::collections::BTreeMap;
 use std::fmt;
 
 /// What a node is.
@@ -61,6 +62,8 @@ pub struct Status {
     pub clients: u64,
     /// How many requests wait for their answers.
     pub requests: u64,
+    /// The nodes that this one refuses for what they have lost, and why.
+    pub refused: BTreeMap<NodeId, String>,
 }
 
 fn list(ids: &[NodeId]) -> String {
@@ -72,12 +75,21 @@ fn or_none<T: fmt::Display>(value: Option<T>) -> String {
     value.map_or_else(|| "-".into(), |value| value.to_string())
 }
 
+/// Which nodes are refused, and why.
+fn refusals(refused: &BTreeMap<NodeId, String>) -> String {
+    if refused.is_empty() {
+        return "-".into();
+    }
+    let texts: Vec<String> = refused.iter().map(|(id, why)| format!("node {id}: {why}")).collect();
+    format!("{:?}", texts.join("; "))
+}
+
 /// One line of names and values.
 impl fmt::Display for Status {
     fn fmt(&self, f: &mut fmt::Formatter<'_>) -> fmt::Result {
         write!(
             f,
-            "node={} role={} leader={} term={} last={} committed={} applied={} voters={} learners={} clients={} requests={}",
+            "node={} role={} leader={} term={} last={} committed={} applied={} voters={} learners={} clients={} requests={} refused={}",
             self.id,
             self.role,
             or_none(self.leader),
@@ -88,7 +100,8 @@ impl fmt::Display for Status {
             list(&self.members.voters),
             list(&self.members.learners),
             self.clients,
-            self.requests
+            self.requests,
+            refusals(&self.refused)
         )
     }
 }

@@ -363,13 +363,55 @@ fn a_log_that_is_shorter_than_it_was_is_kept_out() {
     cluster.kill(id).unwrap();
     restore(&cluster, id, &copy);
     cluster.start(id).unwrap();
-    wait_for("the others refuse it", || {
-        let text = fs::read_to_string(cluster.errors_of(id)).unwrap();
-        text.contains("its log is shorter than it was").then_some(())
-    });
+    let text = refusal(&mut cluster, id);
+    assert!(text.contains("its log is shorter than it was"), "{text}");
     for key in 0..10 {
         assert_eq!(get(&cluster, &format!("k{key}")).as_deref(), Some("v"));
     }
+}
+
+/// What a node's status has of this name, up to a space.
+fn status_of(cluster: &Cluster, id: u64, name: &str) -> Option<String> {
+    let status = cluster.ask(&["status"])?;
+    let line = status.lines().find(|line| line.starts_with(&format!("node={id} ")))?;
+    let value = line.split(&format!(" {name}=")).nth(1)?;
+    Some(value.split(' ').next()?.to_string())
+}
+
+/// The only voter of an old copy could lead by itself, and answer.
+#[test]
+fn a_node_that_is_refused_ends_though_its_old_members_would_let_it_lead() {
+    let mut cluster = Cluster::new(Path::new(PROGRAM), &folder("grown"), 3, 1).unwrap();
+    for id in 1..=3 {
+        cluster.start(id).unwrap();
+    }
+    set(&cluster, "x", "before");
+    cluster.kill(1).unwrap();
+    let copy = copy_of(&cluster, 1);
+    cluster.start(1).unwrap();
+    for id in ["2", "3"] {
+        wait_for("it joins", || cluster.ask(&["join", id]));
+        wait_for("it is a voter", || {
+            let voters = status_of(&cluster, 1, "voters")?;
+            voters.split(',').any(|it| it == id).then_some(())
+        });
+    }
+    set(&cluster, "x", "after");
+    cluster.kill(1).unwrap();
+    restore(&cluster, 1, &copy);
+    cluster.start(1).unwrap();
+    let text = refusal(&mut cluster, 1);
+    let last = text.lines().last().unwrap();
+    assert!(
+        last.contains("level=error") && last.contains("refuses this node"),
+        "{text}"
+    );
+    assert_eq!(get(&cluster, "x").as_deref(), Some("after"));
+    let why = wait_for("it is shown", || {
+        let of_each = [2, 3].map(|id| status_of(&cluster, id, "refused"));
+        of_each.into_iter().flatten().find(|it| it != "-")
+    });
+    assert_eq!(why, "\"node");
 }
 
 /// A copy of a server's folder, which may run.
@@ -408,10 +450,8 @@ fn an_emptied_folder_is_not_a_new_nodes() {
     fs::remove_dir_all(&data).unwrap();
     cluster.start(2).unwrap();
     cluster.start(3).unwrap();
-    wait_for("node 1 refuses it", || {
-        let text = fs::read_to_string(cluster.errors_of(2)).unwrap();
-        text.contains("it isn't in the folder that it had").then_some(())
-    });
+    let text = refusal(&mut cluster, 2);
+    assert!(text.contains("it has lost what it promised"), "{text}");
     assert_eq!(get(&cluster, "b").as_deref(), Some("2"));
 }
 
@@ -429,10 +469,8 @@ fn an_old_copy_of_a_folder_is_kept_out() {
     cluster.kill(id).unwrap();
     restore(&cluster, id, &copy);
     cluster.start(id).unwrap();
-    wait_for("the others refuse it", || {
-        let text = fs::read_to_string(cluster.errors_of(id)).unwrap();
-        text.contains("it isn't in the folder that it had").then_some(())
-    });
+    let text = refusal(&mut cluster, id);
+    assert!(text.contains("it isn't in the folder that it had"), "{text}");
     set(&cluster, "a", "1");
     assert_eq!(get(&cluster, "a").as_deref(), Some("1"));
 }
@@ -485,7 +523,7 @@ fn strangers_reach_nothing() {
 
 /// A hello of nobody, which wants any node of a cluster of this number, without a secret.
 fn hello(cluster: u64) -> Vec<u8> {
-    let words = [2, 0, cluster, 0, 0, 0, 0, 0, 0, 0];
+    let words = [3, 0, cluster, 0, 0, 0, 0, 0, 0, 0];
     let words = words.iter().flat_map(|word: &u64| word.to_le_bytes());
     b"wachelpo".iter().copied().chain(words).chain([0; 32]).collect()
 }
@@ -499,7 +537,7 @@ fn who_was_turned_away_is_not_heard_again() {
     let mut said = Vec::new();
     let _ = stream.read_to_end(&mut said);
     // a challenge, and why
-    assert_eq!((said.len(), said.last()), (64 + 1, Some(&1)));
+    assert_eq!((said.len(), said.get(64)), (64 + 33, Some(&1)));
 }
 
 /// Runs the program with words, at a cluster's nodes.

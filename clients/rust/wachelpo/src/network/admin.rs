@@ -2,7 +2,9 @@
 
 use crate::disk::{Position, Presence};
 use crate::network::frames::Seal;
-use crate::network::handshake::{cluster_number, Direction, Hello, Nonce, Refusal, Secret, Sum, Sums, CHALLENGE};
+use crate::network::handshake::{
+    cluster_number, Direction, Hello, Nonce, Refusal, Secret, Sum, Sums, CHALLENGE, VERDICT,
+};
 use crate::node::Handle;
 use crate::{Error, Members, NodeId};
 use std::io::{self, Read, Write};
@@ -81,10 +83,13 @@ fn exchange(address: &str, cluster: &str, secret: Option<&Secret>, text: &str) -
         return Err(refused(Refusal::Secret));
     }
     stream.write_all(&sums.proof())?;
-    let mut verdict = [0];
+    let mut verdict = [0; VERDICT];
     stream.read_exact(&mut verdict)?;
     if let Some(refusal) = Refusal::of_byte(verdict[0]) {
         return Err(refused(refusal));
+    }
+    if !sums.is_verdict(&verdict) {
+        return Err(refused(Refusal::Secret));
     }
     let seal = |direction| Seal::new(is_secret.then(|| sums.key(direction)));
     let (mut there, mut back) = (seal(Direction::There), seal(Direction::Back));

@@ -5,7 +5,7 @@
 //!    hello ------->         who it is and whom it wants, and a nonce
 //!    <------- challenge     a nonce, and the sum by which the other side shows that it has the secret
 //!    proof ------->         the sum by which this side shows it
-//!    <-------- verdict      whether it is admitted
+//!    <-------- verdict      whether it is admitted, and a sum over that
 //!    frames ------>         each with a sum over its running number, its length and its bytes
 //! ```
 //!
@@ -25,12 +25,12 @@ pub(crate) type Sum = [u8; 32];
 pub(crate) type Nonce = [u8; 32];
 
 const MAGIC: &[u8; 8] = b"wachelpo";
-const VERSION: u64 = 2;
+const VERSION: u64 = 3;
 /// How many bytes a hello has, a challenge, a proof and a verdict.
 pub(crate) const HELLO: usize = 120;
 pub(crate) const CHALLENGE: usize = 64;
 pub(crate) const PROOF: usize = 32;
-pub(crate) const VERDICT: usize = 1;
+pub(crate) const VERDICT: usize = 33;
 
 /// What the nodes of a cluster share, and nobody else has.
 #[derive(Clone)]
@@ -149,6 +149,11 @@ const REFUSALS: [Refusal; 5] = [
 ];
 
 impl Refusal {
+    /// Whether the node has lost what it promised. Then it doesn't go on.
+    pub fn is_loss(self) -> bool {
+        matches!(self, Refusal::Folder | Refusal::Log)
+    }
+
     pub fn to_byte(self) -> u8 {
         1 + REFUSALS.iter().position(|it| *it == self).expect("all are listed") as u8
     }
@@ -208,6 +213,21 @@ impl Sums<'_> {
     /// Whether who connects has the secret.
     pub fn is_proof(&self, sum: &Sum) -> bool {
         self.mac("connects").verify_slice(sum).is_ok()
+    }
+
+    /// What is said of a node: none is refused.
+    pub fn verdict(&self, refusal: Option<Refusal>) -> [u8; VERDICT] {
+        let mut bytes = [0; VERDICT];
+        bytes[0] = refusal.map_or(0, Refusal::to_byte);
+        let sum = self.mac("verdict").chain_update(&bytes[..1]).finalize();
+        bytes[1..].copy_from_slice(&sum.into_bytes());
+        bytes
+    }
+
+    /// Whether who accepts has said that, and has the secret.
+    pub fn is_verdict(&self, verdict: &[u8; VERDICT]) -> bool {
+        let (said, sum) = verdict.split_at(1);
+        self.mac("verdict").chain_update(said).verify_slice(sum).is_ok()
     }
 
     /// The key of the frames that go one way.
@@ -275,6 +295,13 @@ mod tests {
         assert!(sums(&secret).is_proof(&proof) && !sums(&other).is_proof(&proof));
         // what one side has said is no proof of the other
         assert!(!sums(&secret).is_proof(&challenge));
+        for refusal in [None, Some(Refusal::Log)] {
+            let verdict = sums(&secret).verdict(refusal);
+            assert_eq!(Refusal::of_byte(verdict[0]), refusal);
+            let mut other = verdict;
+            other[0] ^= 1;
+            assert!(sums(&secret).is_verdict(&verdict) && !sums(&secret).is_verdict(&other));
+        }
         assert_ne!(sums(&secret).key(Direction::There), sums(&secret).key(Direction::Back));
     }
 

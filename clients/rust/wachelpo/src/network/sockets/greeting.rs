@@ -2,7 +2,8 @@
 
 use super::{refused, Asked, Close, Role, Setup, Socket, Sockets, Step, BACKOFF};
 use crate::network::frames::Seal;
-use crate::network::handshake::{Direction, Hello, Nonce, Refusal, Sum, Sums, CHALLENGE, HELLO};
+use crate::network::handshake::{Direction, Hello, Nonce, Refusal, Sum, Sums, CHALLENGE, HELLO, VERDICT};
+use crate::Error;
 
 impl Sockets {
     /// Somebody says who it is.
@@ -26,32 +27,31 @@ impl Sockets {
         };
         let mut nonce = [0; 32];
         crate::random_bytes(&mut nonce)?;
-        let challenge = Sums {
+        let sums = Sums {
             secret,
             hello: &bytes,
             nonce: &nonce,
-        }
-        .challenge();
+        };
+        let (challenge, verdict) = (sums.challenge(), sums.verdict(refusal));
+        self.say(slot, &challenge, false);
         match refusal {
-            Some(refusal) => self.turn_away(slot, refusal, &challenge),
+            Some(refusal) => self.turn_away(slot, refusal, &verdict),
             None => {
-                self.say(slot, &challenge, false);
                 if let Some(Socket { role, .. }) = &mut self.slots[slot] {
                     *role = Role::Stranger(Some(Asked { hello: bytes, nonce }));
                 }
-                Ok(())
             }
         }
+        Ok(())
     }
 
-    /// Says why somebody isn't admitted, behind what it waits for.
-    fn turn_away(&mut self, slot: usize, refusal: Refusal, before: &[u8]) -> Result<(), Close> {
+    /// Says why somebody isn't admitted.
+    fn turn_away(&mut self, slot: usize, refusal: Refusal, verdict: &[u8; VERDICT]) {
         self.setup.metrics.connections_refused.add(1);
         if let Some(socket) = &self.slots[slot] {
             log::warn!("peers: {} isn't admitted: {refusal}", socket.whose());
         }
-        self.say(slot, &[before, &[refusal.to_byte()]].concat(), true);
-        Ok(())
+        self.say(slot, verdict, true);
     }
 
     /// Somebody shows that it has the secret.
@@ -68,24 +68,30 @@ impl Sockets {
             hello,
             nonce,
         };
-        let Some(Hello {
-            from, presence, log, ..
-        }) = Hello::of_bytes(hello).filter(|_| sums.is_proof(proof))
-        else {
-            return self.turn_away(slot, Refusal::Secret, &[]);
+        let Some(said) = Hello::of_bytes(hello).filter(|_| sums.is_proof(proof)) else {
+            let verdict = sums.verdict(Some(Refusal::Secret));
+            self.turn_away(slot, Refusal::Secret, &verdict);
+            return Ok(());
         };
         let seal = |direction| Seal::new(self.setup.is_secret.then(|| sums.key(direction)));
         let (there, back) = (seal(Direction::There), seal(Direction::Back));
-        let role = match from {
+        let admitted = sums.verdict(None);
+        let role = match said.from {
             None => Role::Admin { there, back },
             Some(from) => {
-                let has_lost = self.logs.get(&from).is_some_and(|known| log < *known);
-                if has_lost && !self.setup.folder.knows(from, presence) {
-                    return self.turn_away(slot, Refusal::Log, &[]);
-                }
-                let admits = self.setup.folder.admits(from, presence);
-                if !admits.map_err(|error| Close(Some(format!("node {from} can't be noted: {error}"))))? {
-                    return self.turn_away(slot, Refusal::Folder, &[]);
+                let has_lost = self.logs.get(&from).is_some_and(|known| said.log < *known);
+                let refusal = if has_lost && !self.setup.folder.knows(from, said.presence) {
+                    Some(Refusal::Log)
+                } else {
+                    let admits = self.setup.folder.admits(from, said.presence);
+                    let admits = admits.map_err(|error| Close(Some(format!("node {from} can't be noted: {error}"))))?;
+                    (!admits).then_some(Refusal::Folder)
+                };
+                self.setup.metrics.note_peer(from, refusal.map(|it| it.to_string()));
+                if let Some(refusal) = refusal {
+                    let verdict = sums.verdict(Some(refusal));
+                    self.turn_away(slot, refusal, &verdict);
+                    return Ok(());
                 }
                 Role::Peer { from, seal: there }
             }
@@ -102,7 +108,7 @@ impl Sockets {
         if let Some(socket) = &mut self.slots[slot] {
             socket.role = role;
         }
-        self.say(slot, &[0], false);
+        self.say(slot, &admitted, false);
         Ok(())
     }
 
@@ -127,17 +133,14 @@ impl Sockets {
             return Err(refused(Refusal::Secret));
         }
         let proof = sums.proof();
-        let key = self.setup.is_secret.then(|| sums.key(Direction::There));
-        *step = Step::Proof(key);
+        *step = Step::Proof(Asked { hello: *hello, nonce });
         self.say(slot, &proof, false);
         Ok(())
     }
 
-    /// The other node admits this one, or not.
-    pub(super) fn verdict(&mut self, slot: usize, verdict: u8) -> Result<(), Close> {
-        if let Some(refusal) = Refusal::of_byte(verdict) {
-            return Err(Close(Some(format!("it refuses this node: {refusal}"))));
-        }
+    /// The other node admits this one, or not. If it doesn't for what this one has lost, this node ends: what it says counts nowhere, and what
+    /// it answers may be old.
+    pub(super) fn verdict(&mut self, slot: usize, verdict: &[u8; VERDICT]) -> Result<(), Close> {
         let Some(Socket {
             role: Role::Link { to, step },
             ..
@@ -145,8 +148,26 @@ impl Sockets {
         else {
             return Ok(());
         };
-        let Step::Proof(key) = step else { return Ok(()) };
-        *step = Step::Open(Seal::new(key.take()));
+        let Step::Proof(Asked { hello, nonce }) = step else {
+            return Ok(());
+        };
+        let sums = Sums {
+            secret: &self.setup.secret,
+            hello,
+            nonce,
+        };
+        let is_proved = sums.is_verdict(verdict);
+        if let Some(refusal) = Refusal::of_byte(verdict[0]) {
+            if is_proved && refusal.is_loss() {
+                self.setup.inbox.fail(Error::KeptOut(*to, refusal.to_string()));
+            }
+            return Err(Close(Some(format!("it refuses this node: {refusal}"))));
+        }
+        if !is_proved {
+            return Err(refused(Refusal::Secret));
+        }
+        let key = self.setup.is_secret.then(|| sums.key(Direction::There));
+        *step = Step::Open(Seal::new(key));
         if let Some(link) = self.links.get_mut(to) {
             log::info!("peer {to}: connected to {}", link.address);
             link.is_up = true;

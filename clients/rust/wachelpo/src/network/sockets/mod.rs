@@ -11,7 +11,7 @@ use crate::batch::{Arrival, Arrivals, Deliveries, Delivery};
 use crate::disk::{Folder, Position, Presence};
 use crate::inbox::Inbox;
 use crate::network::frames::{BadFrame, Seal};
-use crate::network::handshake::{Nonce, Refusal, Secret, Sum, HELLO};
+use crate::network::handshake::{Nonce, Refusal, Secret, HELLO};
 use crate::network::tcp::{ConnectionLimits, Outbox};
 use crate::node::Handle;
 use crate::{ClientId, Error, Metrics, NodeId};
@@ -161,7 +161,7 @@ impl Client {
     }
 }
 
-/// What a stranger has said, and was asked.
+/// What who connects has said, and was asked.
 struct Asked {
     hello: [u8; HELLO],
     nonce: Nonce,
@@ -171,7 +171,7 @@ struct Asked {
 enum Step {
     Connecting,
     Hello([u8; HELLO]),
-    Proof(Option<Sum>),
+    Proof(Asked),
     Open(Seal),
 }
 

@@ -169,7 +169,7 @@ impl Sockets {
                         let Some(verdict) = take::<VERDICT>(&mut socket.input) else {
                             return Ok(false);
                         };
-                        self.verdict(slot, verdict[0])?;
+                        self.verdict(slot, &verdict)?;
                     }
                     _ if socket.input.is_empty() => return Ok(false),
                     // nothing is said back
