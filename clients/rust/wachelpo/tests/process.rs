@@ -451,7 +451,7 @@ fn an_emptied_folder_is_not_a_new_nodes() {
     cluster.start(2).unwrap();
     cluster.start(3).unwrap();
     let text = refusal(&mut cluster, 2);
-    assert!(text.contains("it has lost what it promised"), "{text}");
+    assert!(text.contains("it isn't in the folder that it had"), "{text}");
     assert_eq!(get(&cluster, "b").as_deref(), Some("2"));
 }
 
@@ -468,11 +468,187 @@ fn an_old_copy_of_a_folder_is_kept_out() {
     });
     cluster.kill(id).unwrap();
     restore(&cluster, id, &copy);
-    cluster.start(id).unwrap();
-    let text = refusal(&mut cluster, id);
-    assert!(text.contains("it isn't in the folder that it had"), "{text}");
+    // (however often it is started)
+    for _ in 0..3 {
+        cluster.start(id).unwrap();
+        let text = refusal(&mut cluster, id);
+        assert!(text.contains(OTHER_START), "{text}");
+    }
     set(&cluster, "a", "1");
     assert_eq!(get(&cluster, "a").as_deref(), Some("1"));
+}
+
+/// Why a copy is refused.
+const OTHER_START: &str = "its folder lacks the start by which it is known";
+
+/// How often a node was told that it is admitted.
+fn admissions(cluster: &Cluster, id: u64) -> usize {
+    let text = fs::read_to_string(cluster.errors_of(id)).unwrap();
+    text.matches(": connected to ").count()
+}
+
+/// Starts a node, and waits until both others have admitted it.
+fn start_admitted(cluster: &mut Cluster, id: u64) {
+    let before = admissions(cluster, id);
+    cluster.start(id).unwrap();
+    wait_for("it is admitted", || {
+        (admissions(cluster, id) >= before + 2).then_some(())
+    });
+}
+
+#[test]
+fn an_old_copy_makes_nobody_forget_what_others_have_acknowledged() {
+    let mut cluster = begin("forget", 3);
+    let first = leader(&cluster);
+    let (id, other) = (1 + first % 3, 1 + (first + 1) % 3);
+    cluster.kill(id).unwrap();
+    let copy = copy_of(&cluster, id);
+    start_admitted(&mut cluster, id);
+    cluster.kill(other).unwrap();
+    for key in 0..50 {
+        set(&cluster, &format!("k{key}"), "v");
+    }
+    cluster.kill(id).unwrap();
+    cluster.kill(first).unwrap();
+    restore(&cluster, id, &copy);
+    cluster.start(other).unwrap();
+    for _ in 0..3 {
+        cluster.start(id).unwrap();
+        let text = refusal(&mut cluster, id);
+        assert!(text.contains(OTHER_START), "{text}");
+    }
+    cluster.start(first).unwrap();
+    for key in 0..50 {
+        assert_eq!(get(&cluster, &format!("k{key}")).as_deref(), Some("v"));
+    }
+}
+
+#[test]
+fn what_was_heard_of_a_log_is_known_after_starts() {
+    let mut cluster = begin("heard", 3);
+    let id = 1 + leader(&cluster) % 3;
+    // as a snapshot of a machine that runs
+    let copy = copy_of(&cluster, id);
+    for key in 0..10 {
+        set(&cluster, &format!("k{key}"), "v");
+    }
+    // (positions are noted each second)
+    thread::sleep(Duration::from_secs(2));
+    for id in 1..=3 {
+        cluster.kill(id).unwrap();
+    }
+    restore(&cluster, id, &copy);
+    for id in 1..=3 {
+        cluster.start(id).unwrap();
+    }
+    let text = refusal(&mut cluster, id);
+    assert!(text.contains("it has lost what it promised: it is at byte"), "{text}");
+    for key in 0..10 {
+        assert_eq!(get(&cluster, &format!("k{key}")).as_deref(), Some("v"));
+    }
+}
+
+#[test]
+fn starts_that_reach_nobody_keep_a_node_from_nobody() {
+    let mut cluster = begin("nobody", 3);
+    for id in [2, 3] {
+        cluster.kill(id).unwrap();
+    }
+    for _ in 0..5 {
+        cluster.kill(1).unwrap();
+        cluster.start(1).unwrap();
+        wait_for("it listens", || TcpStream::connect(cluster.address(1)).ok());
+    }
+    // one that was away for several starts, which another one has heard
+    cluster.start(2).unwrap();
+    for _ in 0..3 {
+        cluster.kill(1).unwrap();
+        cluster.start(1).unwrap();
+        set(&cluster, "a", "1");
+    }
+    cluster.kill(2).unwrap();
+    cluster.start(3).unwrap();
+    set(&cluster, "a", "2");
+    assert_eq!(cluster.ended(), []);
+}
+
+/// A process on a copy of node 3's folder, which listens elsewhere, and reaches these nodes.
+fn start_copy(cluster: &Cluster, copy: &Path, reached: &[u64]) -> Child {
+    let mut command = Command::new(PROGRAM);
+    command.args([
+        "serve",
+        "--id",
+        "3",
+        "--cluster",
+        "torture",
+        "--listen",
+        "127.0.0.1:0",
+        "--data",
+    ]);
+    command
+        .arg(copy)
+        .arg("--secret")
+        .arg(cluster.folder(1).with_file_name("secret"));
+    for id in [1, 2, 3] {
+        let address = if reached.contains(&id) {
+            cluster.peers_address(id).to_string()
+        } else {
+            "127.0.0.1:0".into()
+        };
+        command
+            .arg("--peer")
+            .arg(format!("{id}={address},{}", cluster.address(id)));
+    }
+    let errors = fs::File::create(copy.with_extension("err")).unwrap();
+    command.stdin(Stdio::null()).stderr(errors).spawn().unwrap()
+}
+
+fn copys_refusal(mut child: Child, copy: &Path) -> String {
+    let status = wait_for("it ends", || child.try_wait().unwrap());
+    assert_eq!(status.code(), Some(1));
+    fs::read_to_string(copy.with_extension("err")).unwrap()
+}
+
+#[test]
+fn a_second_process_on_a_copy_ends_and_the_first_one_goes_on() {
+    let mut cluster = begin("second", 3);
+    cluster.kill(3).unwrap();
+    let copy = copy_of(&cluster, 3);
+    start_admitted(&mut cluster, 3);
+    for _ in 0..2 {
+        let child = start_copy(&cluster, &copy, &[1, 2]);
+        let text = copys_refusal(child, &copy);
+        assert!(text.contains(OTHER_START), "{text}");
+    }
+    set(&cluster, "a", "1");
+    assert_eq!(cluster.ended(), []);
+}
+
+#[test]
+fn of_two_processes_on_copies_whoever_hears_of_the_other_one_ends() {
+    let mut cluster = begin("two", 3);
+    cluster.kill(3).unwrap();
+    let copy = copy_of(&cluster, 3);
+    // one reaches node 1 alone, and the other one node 2
+    cluster.way(3, 2).set(proxy::State::Cut);
+    cluster.way(2, 3).set(proxy::State::Cut);
+    let before = admissions(&cluster, 3);
+    cluster.start(3).unwrap();
+    wait_for("it is admitted", || (admissions(&cluster, 3) > before).then_some(()));
+    let mut child = start_copy(&cluster, &copy, &[2]);
+    wait_for("the other one is admitted", || {
+        let text = fs::read_to_string(copy.with_extension("err")).unwrap();
+        text.contains(": connected to ").then_some(())
+    });
+    cluster.way(3, 2).set(proxy::State::Open);
+    let text = refusal(&mut cluster, 3);
+    assert!(text.contains(OTHER_START), "{text}");
+    child.kill().unwrap();
+    child.wait().unwrap();
+    let child = start_copy(&cluster, &copy, &[1, 2]);
+    let text = copys_refusal(child, &copy);
+    assert!(text.contains(OTHER_START), "{text}");
+    set(&cluster, "a", "1");
 }
 
 #[test]
@@ -523,7 +699,7 @@ fn strangers_reach_nothing() {
 
 /// A hello of nobody, which wants any node of a cluster of this number, without a secret.
 fn hello(cluster: u64) -> Vec<u8> {
-    let words = [3, 0, cluster, 0, 0, 0, 0, 0, 0, 0];
+    let words = [3, 0, cluster, 0, 0, 0, 0, 0, 0];
     let words = words.iter().flat_map(|word: &u64| word.to_le_bytes());
     b"wachelpo".iter().copied().chain(words).chain([0; 32]).collect()
 }
@@ -537,7 +713,7 @@ fn who_was_turned_away_is_not_heard_again() {
     let mut said = Vec::new();
     let _ = stream.read_to_end(&mut said);
     // a challenge, and why
-    assert_eq!((said.len(), said.get(64)), (64 + 33, Some(&1)));
+    assert_eq!((said.len(), said.get(88)), (88 + 33, Some(&1)));
 }
 
 /// Runs the program with words, at a cluster's nodes.

@@ -1,39 +1,28 @@
-//! The folder of a node: whose it is, who uses it, and which folders other nodes have.
+//! The folder of a node: whose it is, and who uses it.
 
-use crate::disk::{segments, Segments};
+use crate::disk::{segments, Notes, Segments};
 use crate::{FolderError, NodeId};
-use std::collections::BTreeMap;
 use std::fs::{self, File, OpenOptions, TryLockError};
 use std::io::{self, Write};
 use std::path::{Path, PathBuf};
 
 /// What a node says of its folder and its start, so that another one can tell an old copy of it.
-#[derive(Clone, Copy, PartialEq, Eq, Debug)]
+#[derive(Clone, Copy, PartialEq, Eq, Default, Debug)]
 pub struct Presence {
     /// A number that was drawn when the folder was made.
     pub folder: u64,
-    /// How often a node was started on it.
-    pub starts: u64,
     /// A number that was drawn at this start.
     pub run: u64,
 }
 
-impl Presence {
-    /// Whether a node that was known so may come as `next`: with the same folder, in the same start or a later one.
-    fn may_become(&self, next: &Presence) -> bool {
-        self.folder == next.folder && (self.starts < next.starts || self == next)
-    }
-}
-
 /// The folder of a node, which no other process uses meanwhile.
 ///
-/// It has `identity` (whose it is, and how often it was started), `peers` (which folders other nodes have), the files of the log
-/// ([`Segments`]), `begun` (once the log had anything), and `lock`.
+/// It has `identity` (whose it is), `peers` (which folders and starts other nodes have, and by which they know this one), the files of the
+/// log ([`Segments`]), `begun` (once the log had anything), and `lock`.
 pub struct Folder {
     path: PathBuf,
     presence: Presence,
-    /// The presences of other nodes, as they were last.
-    peers: BTreeMap<NodeId, Presence>,
+    notes: Notes,
     _lock: File,
 }
 
@@ -70,57 +59,30 @@ struct Identity {
     node: NodeId,
     cluster: String,
     folder: u64,
-    starts: u64,
 }
 
 impl Identity {
     fn to_text(&self) -> String {
-        let Identity {
-            node,
-            cluster,
-            folder,
-            starts,
-        } = self;
-        format!("format 1\nnode {node}\nfolder {folder:016x}\nstarts {starts}\ncluster {cluster}\n")
+        let Identity { node, cluster, folder } = self;
+        format!("format 2\nnode {node}\nfolder {folder:016x}\ncluster {cluster}\n")
     }
 
     fn of_text(text: &str) -> Option<Self> {
         let mut lines = text.lines();
         let mut value = |name: &str| lines.next()?.strip_prefix(name)?.strip_prefix(' ');
-        value("format").filter(|format| *format == "1")?;
-        Some(Identity {
-            node: NodeId(value("node")?.parse().ok()?),
-            folder: u64::from_str_radix(value("folder")?, 16).ok()?,
-            starts: value("starts")?.parse().ok()?,
-            cluster: value("cluster")?.to_string(),
-        })
+        let format = value("format").filter(|format| ["1", "2"].contains(format))?;
+        let node = NodeId(value("node")?.parse().ok()?);
+        let folder = u64::from_str_radix(value("folder")?, 16).ok()?;
+        if format == "1" {
+            value("starts")?;
+        }
+        let cluster = value("cluster")?.to_string();
+        Some(Identity { node, cluster, folder })
     }
 }
 
-/// The last line of the file `peers`, so that a part of it isn't read as the whole.
-const END: &str = "end\n";
-
-fn peers_of_text(text: &str) -> Option<BTreeMap<NodeId, Presence>> {
-    let mut peers = BTreeMap::new();
-    for line in text.strip_suffix(END)?.lines() {
-        let mut words = line.split(' ');
-        let node = NodeId(words.next()?.parse().ok()?);
-        let presence = Presence {
-            folder: u64::from_str_radix(words.next()?, 16).ok()?,
-            starts: words.next()?.parse().ok()?,
-            run: u64::from_str_radix(words.next()?, 16).ok()?,
-        };
-        peers.insert(node, presence);
-    }
-    Some(peers)
-}
-
-fn peers_text(peers: &BTreeMap<NodeId, Presence>) -> String {
-    let line = |(node, Presence { folder, starts, run }): (&NodeId, &Presence)| {
-        format!("{node} {folder:016x} {starts} {run:016x}\n")
-    };
-    peers.iter().map(line).collect::<String>() + END
-}
+/// The file of a node's notes.
+const NOTES: &str = "peers";
 
 fn damaged(path: &Path, name: &str) -> FolderError {
     FolderError::Damaged(path.join(name), "it isn't what a node has written".into())
@@ -165,14 +127,13 @@ impl Folder {
             node,
             cluster: cluster.to_string(),
             folder: crate::random().map_err(failed)?,
-            starts: 0,
         };
         // (of two that make it at once one fails here: the other one's log may have something already)
         File::create_new(path.join("log.000000")).map_err(failed)?;
         replace(path, "identity", &identity.to_text()).map_err(failed)
     }
 
-    /// Opens the folder of a node, and counts its start.
+    /// Opens the folder of a node. Its start counts once another node admits it.
     pub fn open(path: &Path, node: NodeId, cluster: &str) -> Result<Self, FolderError> {
         let failed = |error| FolderError::Io(path.to_path_buf(), error);
         let is_empty = || FolderError::Empty(path.to_path_buf());
@@ -180,7 +141,6 @@ impl Folder {
         if !path.join("identity").try_exists().map_err(failed)? {
             return Err(is_empty());
         }
-        // first, since another process that has it counts its start meanwhile
         let lock = lock(path)?;
         let text = text_of(path, "identity")?.ok_or_else(is_empty)?;
         let identity = Identity::of_text(&text).ok_or_else(|| damaged(path, "identity"))?;
@@ -188,25 +148,23 @@ impl Folder {
             let whose = format!("node {} of cluster {}", identity.node, identity.cluster);
             return Err(FolderError::Foreign(path.to_path_buf(), whose));
         }
-        let starts = identity.starts + 1;
         let first = segments::first_file(path).map_err(failed)?;
         if !first.exists() {
             return Err(FolderError::Damaged(first, "the log is missing".into()));
         }
-        replace(path, "identity", &Identity { starts, ..identity }.to_text()).map_err(failed)?;
-        let peers = match text_of(path, "peers")? {
-            None => BTreeMap::new(),
-            Some(text) => peers_of_text(&text).ok_or_else(|| damaged(path, "peers"))?,
+        let notes = match text_of(path, NOTES)? {
+            None => Notes::default(),
+            Some(text) => Notes::of_text(&text).ok_or_else(|| damaged(path, NOTES))?,
         };
         let presence = Presence {
             folder: identity.folder,
-            starts,
-            run: crate::random().map_err(failed)?,
+            // (0 stands for no run)
+            run: crate::random().map_err(failed)?.max(1),
         };
         Ok(Folder {
             path: path.to_path_buf(),
             presence,
-            peers,
+            notes,
             _lock: lock,
         })
     }
@@ -226,25 +184,14 @@ impl Folder {
         self.presence
     }
 
-    /// Whether another node was seen in this start of it.
-    pub fn knows(&self, node: NodeId, presence: Presence) -> bool {
-        self.peers.get(&node) == Some(&presence)
+    /// What was noted when it was opened.
+    pub(crate) fn notes(&self) -> &Notes {
+        &self.notes
     }
 
-    /// Whether another node is the one that it was: in an old copy of its folder, or in a new one, it no longer knows what it has
-    /// promised. What is new of it is noted first.
-    pub fn admits(&mut self, node: NodeId, presence: Presence) -> io::Result<bool> {
-        if self.knows(node, presence) {
-            return Ok(true);
-        }
-        if self.peers.get(&node).is_some_and(|known| !known.may_become(&presence)) {
-            return Ok(false);
-        }
-        let mut peers = self.peers.clone();
-        peers.insert(node, presence);
-        replace(&self.path, "peers", &peers_text(&peers))?;
-        self.peers = peers;
-        Ok(true)
+    /// Writes notes: whenever the machine stops, all of them are there, or those before.
+    pub(crate) fn write_notes(&self, text: &str) -> io::Result<()> {
+        replace(&self.path, NOTES, text)
     }
 }
 
@@ -274,13 +221,13 @@ mod tests {
         assert!(refusal(path, NODE, "b").ends_with("the folder of node 3 of cluster a"));
         let first = Folder::open(path, NODE, "a").unwrap();
         assert!(refusal(path, NODE, "a").contains("another process"));
-        assert_eq!(first.presence().starts, 1);
+        let run = first.presence().run;
         drop(first);
         fs::remove_file(path.join("log.000000")).unwrap();
         assert!(refusal(path, NODE, "a").ends_with("the log is missing"));
         fs::write(path.join("log.000000"), []).unwrap();
         let second = Folder::open(path, NODE, "a").unwrap();
-        assert_eq!(second.presence().starts, 2);
+        assert_ne!(second.presence().run, run);
         let mut log = second.log_for(0);
         log.read().unwrap();
         log.cut(0).unwrap();
@@ -297,56 +244,29 @@ mod tests {
     }
 
     #[test]
-    fn who_could_not_be_noted_is_not_known() {
-        let scratch = Scratch::new("unnoted");
-        Folder::create(scratch.path(), NODE, "a").unwrap();
-        let mut folder = Folder::open(scratch.path(), NODE, "a").unwrap();
-        let presence = folder.presence();
+    fn notes_are_read_at_the_next_start() {
+        let scratch = Scratch::new("notes");
+        let path = scratch.path();
+        Folder::create(path, NODE, "a").unwrap();
+        let folder = Folder::open(path, NODE, "a").unwrap();
+        let mut notes = folder.notes().clone();
+        assert_eq!(notes, Notes::default());
+        notes.log.end = 7;
         // nothing is written into a folder's name
-        let taken = scratch.path().join("peers.new");
+        let taken = path.join("peers.new");
         fs::create_dir(&taken).unwrap();
-        for _ in 0..2 {
-            folder.admits(NodeId(1), presence).unwrap_err();
-            assert!(!folder.knows(NodeId(1), presence));
-        }
+        folder.write_notes(&notes.to_text()).unwrap_err();
         fs::remove_dir(taken).unwrap();
-        assert!(folder.admits(NodeId(1), presence).unwrap());
+        folder.write_notes(&notes.to_text()).unwrap();
         drop(folder);
-        assert!(Folder::open(scratch.path(), NODE, "a")
-            .unwrap()
-            .knows(NodeId(1), presence));
-    }
-
-    #[test]
-    fn another_folder_or_an_old_copy_is_not_admitted() {
-        let scratch = Scratch::new("admits");
-        Folder::create(scratch.path(), NODE, "a").unwrap();
-        let mut folder = Folder::open(scratch.path(), NODE, "a").unwrap();
-        let first = Presence {
-            folder: 7,
-            starts: 1,
-            run: 100,
-        };
-        let second = Presence {
-            folder: 7,
-            starts: 2,
-            run: 101,
-        };
-        let copy = Presence {
-            folder: 7,
-            starts: 2,
-            run: 102,
-        };
-        let other = Presence {
-            folder: 8,
-            starts: 9,
-            run: 103,
-        };
-        let mut admits = |presence| folder.admits(NodeId(1), presence).unwrap();
-        assert!(admits(first) && admits(first) && admits(second));
-        assert!(!admits(first) && !admits(copy) && !admits(other));
-        drop(folder);
-        let mut again = Folder::open(scratch.path(), NODE, "a").unwrap();
-        assert!(!again.admits(NodeId(1), first).unwrap() && again.admits(NodeId(1), second).unwrap());
+        // a folder of before may say how often it was started
+        let text = fs::read_to_string(path.join("identity")).unwrap();
+        let old = text
+            .replace("format 2", "format 1")
+            .replace("cluster", "starts 3\ncluster");
+        fs::write(path.join("identity"), old).unwrap();
+        assert_eq!(Folder::open(path, NODE, "a").unwrap().notes(), &notes);
+        fs::write(path.join("peers"), "format 2\n").unwrap();
+        assert!(refusal(path, NODE, "a").contains("peers: it isn't what a node has written"));
     }
 }

@@ -3,13 +3,17 @@
 mod aside;
 mod blocks;
 mod folder;
+mod notes;
+mod noting;
 mod segments;
 
 pub use folder::{Folder, Presence};
+pub(crate) use notes::{verdict, Heard, Note, Notes};
+pub(crate) use noting::Noting;
 pub use segments::Segments;
 
-use std::io;
 use std::sync::{Arc, Mutex, MutexGuard, PoisonError};
+use std::{fmt, io};
 
 /// A log of bytes, which are appended and then stay.
 pub trait Disk: Send {
@@ -56,6 +60,12 @@ pub(crate) struct Position {
     pub generation: u64,
     /// Up to which byte it is on disk.
     pub end: u64,
+}
+
+impl fmt::Display for Position {
+    fn fmt(&self, f: &mut fmt::Formatter<'_>) -> fmt::Result {
+        write!(f, "byte {} after {} new logs", self.end, self.generation)
+    }
 }
 
 impl Position {

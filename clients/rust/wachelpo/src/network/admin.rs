@@ -2,9 +2,7 @@
 
 use crate::disk::{Position, Presence};
 use crate::network::frames::Seal;
-use crate::network::handshake::{
-    cluster_number, Direction, Hello, Nonce, Refusal, Secret, Sum, Sums, CHALLENGE, VERDICT,
-};
+use crate::network::handshake::{cluster_number, Direction, Hello, Nonce, Refusal, Secret, Sums, CHALLENGE, VERDICT};
 use crate::node::Handle;
 use crate::{Error, Members, NodeId};
 use std::io::{self, Read, Write};
@@ -58,11 +56,7 @@ fn exchange(address: &str, cluster: &str, secret: Option<&Secret>, text: &str) -
         cluster: cluster_number(cluster),
         from: None,
         to: NodeId(0),
-        presence: Presence {
-            folder: 0,
-            starts: 0,
-            run: 0,
-        },
+        presence: Presence::default(),
         log: Position::default(),
         nonce,
     };
@@ -71,7 +65,6 @@ fn exchange(address: &str, cluster: &str, secret: Option<&Secret>, text: &str) -
     let mut challenge = [0; CHALLENGE];
     stream.read_exact(&mut challenge)?;
     let nonce: Nonce = challenge[..32].try_into().expect("it has 32");
-    let sum: Sum = challenge[32..].try_into().expect("it has 32");
     let none = Secret::new("");
     let sums = Sums {
         secret: secret.unwrap_or(&none),
@@ -79,10 +72,10 @@ fn exchange(address: &str, cluster: &str, secret: Option<&Secret>, text: &str) -
         nonce: &nonce,
     };
     let refused = |refusal: Refusal| io::Error::new(io::ErrorKind::PermissionDenied, refusal.to_string());
-    if !sums.is_challenge(&sum) {
+    if sums.known(&challenge).is_none() {
         return Err(refused(Refusal::Secret));
     }
-    stream.write_all(&sums.proof())?;
+    stream.write_all(&sums.proof(false))?;
     let mut verdict = [0; VERDICT];
     stream.read_exact(&mut verdict)?;
     if let Some(refusal) = Refusal::of_byte(verdict[0]) {

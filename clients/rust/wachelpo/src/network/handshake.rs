@@ -2,20 +2,20 @@
 //!
 //! ```text
 //! connects    accepts
-//!    hello ------->         who it is and whom it wants, and a nonce
-//!    <------- challenge     a nonce, and the sum by which the other side shows that it has the secret
-//!    proof ------->         the sum by which this side shows it
+//!    hello ------->         who it is and whom it wants, how far its log is on disk, and a nonce
+//!    <------- challenge     a nonce, by which start it is known, and the sum by which the other side shows that it has the secret
+//!    proof ------->         whether its folder has that start, and the sum by which this side shows it
 //!    <-------- verdict      whether it is admitted, and a sum over that
 //!    frames ------>         each with a sum over its running number, its length and its bytes
 //! ```
 //!
 //! A sum is HMAC-SHA-256 (RFC 2104, FIPS 180-4) with the shared secret over a word for what it is, the hello and the nonce of the challenge;
 //! frames have a key of the connection, which is such a sum. Each frame begins with how often its sender's log was replaced, and up to where
-//! the last one is on disk (8 bytes each): all that it has promised stands there. Whoever comes back with an older log, or a shorter one,
-//! isn't admitted. Without a secret it is the same with an empty one, and frames have no sums: then nothing is proved, and a server listens
+//! the last one is on disk (8 bytes each): all that it has promised stands there. [`verdict`](crate::disk::verdict) says who is admitted.
+//! Without a secret it is the same with an empty one, and frames have no sums: then nothing is proved, and a server listens
 //! on loopback addresses alone.
 
-use crate::disk::{Position, Presence};
+use crate::disk::{Heard, Position, Presence, POSITION};
 use crate::NodeId;
 use hmac::{Hmac, Mac};
 use sha2::{Digest, Sha256};
@@ -27,9 +27,9 @@ pub(crate) type Nonce = [u8; 32];
 const MAGIC: &[u8; 8] = b"wachelpo";
 const VERSION: u64 = 3;
 /// How many bytes a hello has, a challenge, a proof and a verdict.
-pub(crate) const HELLO: usize = 120;
-pub(crate) const CHALLENGE: usize = 64;
-pub(crate) const PROOF: usize = 32;
+pub(crate) const HELLO: usize = 112;
+pub(crate) const CHALLENGE: usize = 88;
+pub(crate) const PROOF: usize = 33;
 pub(crate) const VERDICT: usize = 33;
 
 /// What the nodes of a cluster share, and nobody else has.
@@ -69,7 +69,7 @@ pub(crate) struct Hello {
     pub from: Option<NodeId>,
     pub to: NodeId,
     pub presence: Presence,
-    /// How far its log had come when it was opened.
+    /// How far its log is on disk.
     pub log: Position,
     pub nonce: Nonce,
 }
@@ -77,7 +77,7 @@ pub(crate) struct Hello {
 impl Hello {
     pub fn to_bytes(self) -> [u8; HELLO] {
         let mut bytes = [0; HELLO];
-        let Presence { folder, starts, run } = self.presence;
+        let Presence { folder, run } = self.presence;
         let from = self.from.map_or(0, |id| id.0);
         let words = [
             VERSION,
@@ -86,24 +86,23 @@ impl Hello {
             from,
             self.to.0,
             folder,
-            starts,
             run,
             self.log.generation,
             self.log.end,
         ];
         bytes[..8].copy_from_slice(MAGIC);
-        for (place, word) in bytes[8..88].chunks_exact_mut(8).zip(words) {
+        for (place, word) in bytes[8..80].chunks_exact_mut(8).zip(words) {
             place.copy_from_slice(&word.to_le_bytes());
         }
-        bytes[88..].copy_from_slice(&self.nonce);
+        bytes[80..].copy_from_slice(&self.nonce);
         bytes
     }
 
     pub fn of_bytes(bytes: &[u8; HELLO]) -> Option<Self> {
-        let mut words = bytes[8..88]
+        let mut words = bytes[8..80]
             .chunks_exact(8)
             .map(|word| u64::from_le_bytes(word.try_into().expect("it has 8")));
-        let mut word = || words.next().expect("there are 10");
+        let mut word = || words.next().expect("there are 9");
         if &bytes[..8] != MAGIC || word() != VERSION {
             return None;
         }
@@ -118,15 +117,27 @@ impl Hello {
             to: NodeId(word()),
             presence: Presence {
                 folder: word(),
-                starts: word(),
                 run: word(),
             },
             log: Position {
                 generation: word(),
                 end: word(),
             },
-            nonce: bytes[88..].try_into().expect("it has 32"),
+            nonce: bytes[80..].try_into().expect("it has 32"),
         })
+    }
+}
+
+/// What who accepts knows of who connects: its last start (0 for none), and how far its log was heard to be on disk.
+#[derive(Clone, Copy, PartialEq, Eq, Default, Debug)]
+pub(crate) struct Known {
+    pub run: u64,
+    pub log: Position,
+}
+
+impl From<Heard> for Known {
+    fn from(Heard { presence, log }: Heard) -> Self {
+        Known { run: presence.run, log }
     }
 }
 
@@ -138,20 +149,22 @@ pub(crate) enum Refusal {
     Secret,
     Folder,
     Log,
+    Run,
 }
 
-const REFUSALS: [Refusal; 5] = [
+const REFUSALS: [Refusal; 6] = [
     Refusal::Cluster,
     Refusal::Node,
     Refusal::Secret,
     Refusal::Folder,
     Refusal::Log,
+    Refusal::Run,
 ];
 
 impl Refusal {
     /// Whether the node has lost what it promised. Then it doesn't go on.
     pub fn is_loss(self) -> bool {
-        matches!(self, Refusal::Folder | Refusal::Log)
+        matches!(self, Refusal::Folder | Refusal::Log | Refusal::Run)
     }
 
     pub fn to_byte(self) -> u8 {
@@ -170,8 +183,9 @@ impl fmt::Display for Refusal {
             Refusal::Cluster => "it is of another cluster",
             Refusal::Node => "another node is at this address",
             Refusal::Secret => "its secret is another one, or one side has none",
-            Refusal::Folder => {
-                "it isn't in the folder that it had, but in a new one or an old copy: it has lost what it promised"
+            Refusal::Folder => "it isn't in the folder that it had, but in a new one: it has lost what it promised",
+            Refusal::Run => {
+                "its folder lacks the start by which it is known: it is an old copy, or another process runs on a copy"
             }
             Refusal::Log => "its log is shorter than it was: it has lost what it promised",
         })
@@ -194,25 +208,41 @@ impl Sums<'_> {
             .chain_update(self.nonce)
     }
 
-    pub fn challenge(&self) -> [u8; CHALLENGE] {
+    /// Says what is known of who connects.
+    pub fn challenge(&self, known: Known) -> [u8; CHALLENGE] {
         let mut bytes = [0; CHALLENGE];
         bytes[..32].copy_from_slice(self.nonce);
-        bytes[32..].copy_from_slice(&self.mac("accepts").finalize().into_bytes());
+        bytes[32..40].copy_from_slice(&known.run.to_le_bytes());
+        bytes[40..56].copy_from_slice(&known.log.to_bytes());
+        let sum = self.mac("accepts").chain_update(&bytes[32..56]).finalize();
+        bytes[56..].copy_from_slice(&sum.into_bytes());
         bytes
     }
 
-    /// Whether who accepts has the secret. (Sums are compared in constant time.)
-    pub fn is_challenge(&self, sum: &Sum) -> bool {
-        self.mac("accepts").verify_slice(sum).is_ok()
+    /// What is known, if who accepts has the secret. (Sums are compared in constant time.)
+    pub fn known(&self, challenge: &[u8; CHALLENGE]) -> Option<Known> {
+        let (known, sum) = challenge[32..].split_at(8 + POSITION);
+        self.mac("accepts").chain_update(known).verify_slice(sum).ok()?;
+        let (run, log) = known.split_first_chunk()?;
+        Some(Known {
+            run: u64::from_le_bytes(*run),
+            log: Position::of_bytes(log.first_chunk()?),
+        })
     }
 
-    pub fn proof(&self) -> Sum {
-        self.mac("connects").finalize().into_bytes().into()
+    /// Says whether the folder of who connects has the start that is known.
+    pub fn proof(&self, has_run: bool) -> [u8; PROOF] {
+        let mut bytes = [0; PROOF];
+        bytes[0] = has_run.into();
+        let sum = self.mac("connects").chain_update(&bytes[..1]).finalize();
+        bytes[1..].copy_from_slice(&sum.into_bytes());
+        bytes
     }
 
-    /// Whether who connects has the secret.
-    pub fn is_proof(&self, sum: &Sum) -> bool {
-        self.mac("connects").verify_slice(sum).is_ok()
+    /// Whether who connects has said that, and has the secret.
+    pub fn is_proof(&self, proof: &[u8; PROOF]) -> bool {
+        let (said, sum) = proof.split_at(1);
+        self.mac("connects").chain_update(said).verify_slice(sum).is_ok()
     }
 
     /// What is said of a node: none is refused.
@@ -257,11 +287,7 @@ mod tests {
             cluster: 77,
             from: Some(NodeId(1)),
             to: NodeId(2),
-            presence: Presence {
-                folder: 3,
-                starts: 4,
-                run: 5,
-            },
+            presence: Presence { folder: 3, run: 5 },
             log: Position { generation: 8, end: 9 },
             nonce: [6; 32],
         }
@@ -289,12 +315,23 @@ mod tests {
             hello: &bytes,
             nonce: &[9; 32],
         };
-        let challenge: Sum = sums(&secret).challenge()[32..].try_into().unwrap();
-        assert!(sums(&secret).is_challenge(&challenge) && !sums(&other).is_challenge(&challenge));
-        let proof = sums(&secret).proof();
+        let known = Known {
+            run: 7,
+            log: Position { generation: 1, end: 2 },
+        };
+        let challenge = sums(&secret).challenge(known);
+        assert_eq!(sums(&secret).known(&challenge), Some(known));
+        assert_eq!(sums(&other).known(&challenge), None);
+        let mut changed = challenge;
+        changed[33] ^= 1;
+        assert_eq!(sums(&secret).known(&changed), None);
+        let proof = sums(&secret).proof(true);
         assert!(sums(&secret).is_proof(&proof) && !sums(&other).is_proof(&proof));
+        assert_eq!(proof[0], 1);
+        assert!(!sums(&secret).is_proof(&[&[0], &proof[1..]].concat().try_into().unwrap()));
         // what one side has said is no proof of the other
-        assert!(!sums(&secret).is_proof(&challenge));
+        let back = [&[1], &challenge[56..]].concat().try_into().unwrap();
+        assert!(!sums(&secret).is_proof(&back));
         for refusal in [None, Some(Refusal::Log)] {
             let verdict = sums(&secret).verdict(refusal);
             assert_eq!(Refusal::of_byte(verdict[0]), refusal);

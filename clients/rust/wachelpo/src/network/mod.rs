@@ -6,8 +6,8 @@ mod page;
 mod sockets;
 mod tcp;
 
-pub(crate) use handshake::cluster_number;
 pub use handshake::Secret;
+pub(crate) use handshake::{cluster_number, Refusal};
 pub use tcp::{ConnectionLimits, Tcp, TcpBuilder};
 
 pub(crate) mod admin;

@@ -142,9 +142,8 @@ impl TcpBuilder {
             handle: node.handle(),
             metrics: node.metrics(),
             outbox: Arc::clone(&outbox),
-            folder,
         };
-        let (sockets, waker) = Sockets::open(setup, &self.addresses, self.peers)?;
+        let (sockets, waker) = Sockets::open(setup, folder, &self.addresses, self.peers)?;
         let (runs, has_ended) = channel();
         thread::Builder::new()
             .name("sockets".into())

@@ -1,7 +1,7 @@
 //! Connections that others make.
 
 use super::linking::notice_absence;
-use super::{Client, Role, Socket, Sockets, CLIENTS, FIRST, PAUSE, PEERS, STRANGERS};
+use super::{Client, Knock, Role, Socket, Sockets, CLIENTS, FIRST, PAUSE, PEERS, STRANGERS};
 use crate::batch::Arrival;
 use crate::ClientId;
 use mio::net::TcpStream;
@@ -51,7 +51,7 @@ impl Sockets {
                     ended: None,
                 })
             }
-            PEERS => Role::Stranger(None),
+            PEERS => Role::Stranger(Knock::Silent),
             _ => Role::Page,
         };
         let client = match &role {

@@ -123,7 +123,7 @@ impl Sockets {
             from: Some(self.setup.id),
             to: *to,
             presence: self.presence,
-            log: self.log,
+            log: self.setup.metrics.log(),
             nonce,
         };
         let bytes = hello.to_bytes();
@@ -174,10 +174,9 @@ mod tests {
             handle: node.handle(),
             metrics: node.metrics(),
             outbox: Arc::default(),
-            folder,
         };
         let peers = [(NodeId(2), address.to_string())].into();
-        Sockets::open(setup, &Addresses::default(), peers).unwrap().0
+        Sockets::open(setup, folder, &Addresses::default(), peers).unwrap().0
     }
 
     #[test]

@@ -4,14 +4,15 @@ mod accepting;
 mod gathering;
 mod greeting;
 mod linking;
+mod noting;
 mod reading;
 mod writing;
 
 use crate::batch::{Arrival, Arrivals, Deliveries, Delivery};
-use crate::disk::{Folder, Position, Presence};
+use crate::disk::{Folder, Noting, Presence};
 use crate::inbox::Inbox;
 use crate::network::frames::{BadFrame, Seal};
-use crate::network::handshake::{Nonce, Refusal, Secret, HELLO};
+use crate::network::handshake::{Known, Nonce, Refusal, Secret, HELLO};
 use crate::network::tcp::{ConnectionLimits, Outbox};
 use crate::node::Handle;
 use crate::{ClientId, Error, Metrics, NodeId};
@@ -19,6 +20,7 @@ use gathering::Gathering;
 use mio::event::Event;
 use mio::net::{TcpListener, TcpStream};
 use mio::{Events, Interest, Poll, Token, Waker};
+use noting::Desk;
 use std::collections::{BTreeMap, HashMap};
 use std::io::{self, ErrorKind};
 use std::net::SocketAddr;
@@ -82,7 +84,6 @@ pub(crate) struct Setup {
     pub handle: Handle,
     pub metrics: Arc<Metrics>,
     pub outbox: Arc<Mutex<Outbox>>,
-    pub folder: Folder,
 }
 
 /// One connection.
@@ -110,7 +111,7 @@ struct Socket {
 enum Role {
     Client(Client),
     /// Somebody has connected, and has not proved yet who it is.
-    Stranger(Option<Asked>),
+    Stranger(Knock),
     /// Another node, which sends frames.
     Peer {
         from: NodeId,
@@ -161,16 +162,28 @@ impl Client {
     }
 }
 
-/// What who connects has said, and was asked.
+/// What who connects has said, was asked, and by what it is known.
+#[derive(Clone, Copy)]
 struct Asked {
     hello: [u8; HELLO],
     nonce: Nonce,
+    known: Known,
+}
+
+/// How far somebody is who has connected.
+enum Knock {
+    Silent,
+    Asked(Asked),
+    /// It is admitted once that is noted.
+    Noted(Asked),
 }
 
 /// How far a connection to another node is.
 enum Step {
     Connecting,
     Hello([u8; HELLO]),
+    /// It is said to have the secret once it is noted that the other node is told of this start.
+    Noting(Asked),
     Proof(Asked),
     Open(Seal),
 }
@@ -218,8 +231,10 @@ fn refused(refusal: Refusal) -> Close {
 pub(crate) struct Sockets {
     setup: Setup,
     presence: Presence,
-    /// How far this node's log had come when it was opened.
-    log: Position,
+    noting: Noting,
+    desk: Desk,
+    /// When positions were noted last.
+    noted: Instant,
     poll: Poll,
     listeners: Vec<(Token, TcpListener)>,
     /// When listeners that couldn't take a connection are asked again.
@@ -232,8 +247,6 @@ pub(crate) struct Sockets {
     /// How many bytes for all clients wait.
     unwritten: usize,
     peers: BTreeMap<NodeId, usize>,
-    /// How far other nodes' logs are on disk, as they have said.
-    logs: BTreeMap<NodeId, Position>,
     strangers: usize,
     links: BTreeMap<NodeId, Link>,
     /// What host names were found to be.
@@ -282,6 +295,7 @@ impl Sockets {
     /// Binds all addresses.
     pub fn open(
         setup: Setup,
+        folder: Folder,
         addresses: &Addresses,
         peers: BTreeMap<NodeId, String>,
     ) -> Result<(Self, Arc<Waker>), Error> {
@@ -315,10 +329,14 @@ impl Sockets {
             is_up: false,
             told: String::new(),
         };
-        let presence = setup.folder.presence();
+        let (presence, desk) = (folder.presence(), Desk::new(folder.notes().clone()));
+        let wakes = waker.clone();
+        let noting = Noting::start(folder, move || drop(wakes.wake()))?;
         let sockets = Sockets {
             presence,
-            log: setup.metrics.log(),
+            noting,
+            desk,
+            noted: now,
             setup,
             poll,
             listeners,
@@ -330,7 +348,6 @@ impl Sockets {
             most_clients,
             unwritten: 0,
             peers: BTreeMap::new(),
-            logs: BTreeMap::new(),
             strangers: 0,
             links: peers.into_iter().map(|(id, address)| (id, link(address))).collect(),
             found: Arc::default(),
@@ -384,6 +401,7 @@ impl Sockets {
             for event in &events {
                 self.happens(event);
             }
+            self.notes_are_written();
             self.read_ready();
             self.serve(&mut deliveries);
             if self.is_over {
@@ -556,6 +574,7 @@ impl Sockets {
             self.connect(to, address);
         }
         self.connect_again(now);
+        self.note_positions(now);
         let idle = self.setup.limits.idle;
         let is_late = |socket: &Socket| {
             let is_late = |since: Instant| now.saturating_duration_since(since) > PATIENCE;

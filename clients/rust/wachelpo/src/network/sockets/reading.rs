@@ -1,6 +1,6 @@
 //! What comes over connections.
 
-use super::{Client, Close, Role, Socket, Sockets, Step, SHARE};
+use super::{Client, Close, Knock, Role, Socket, Sockets, Step, SHARE};
 use crate::batch::Arrival;
 use crate::disk::Position;
 use crate::network::handshake::{CHALLENGE, HELLO, PROOF, VERDICT};
@@ -116,8 +116,7 @@ impl Sockets {
                     let (log, frame) = bytes
                         .split_first_chunk()
                         .ok_or_else(|| Close(Some("a frame has no position".into())))?;
-                    let known = self.logs.entry(from).or_default();
-                    *known = Position::of_bytes(log).max(*known);
+                    self.desk.notes.hear(from, Position::of_bytes(log));
                     self.frames.push(Arrival::Frame(from), frame);
                     self.setup.metrics.frames_received.add(1);
                     rest = behind;
@@ -143,14 +142,15 @@ impl Sockets {
                 self.say(slot, &framed, false);
                 Ok(true)
             }
-            Role::Stranger(None) => {
+            Role::Stranger(Knock::Noted(_)) => Ok(false),
+            Role::Stranger(Knock::Silent) => {
                 let Some(hello) = take::<HELLO>(&mut socket.input) else {
                     return Ok(false);
                 };
                 self.hello(slot, hello)?;
                 Ok(true)
             }
-            Role::Stranger(Some(_)) => {
+            Role::Stranger(Knock::Asked(_)) => {
                 let Some(proof) = take::<PROOF>(&mut socket.input) else {
                     return Ok(false);
                 };
@@ -173,7 +173,9 @@ impl Sockets {
                     }
                     _ if socket.input.is_empty() => return Ok(false),
                     // nothing is said back
-                    Step::Connecting | Step::Open(_) => return Err(Close(Some("it says what it shouldn't".into()))),
+                    Step::Connecting | Step::Noting(_) | Step::Open(_) => {
+                        return Err(Close(Some("it says what it shouldn't".into())))
+                    }
                 }
                 Ok(true)
             }
