@@ -5,7 +5,7 @@ use crate::disk::Position;
 use crate::inbox::{Flush, Handler, Inbox, Mail, Written};
 use crate::metrics::Metrics;
 use crate::service::{Input, Output, Refusal, Service, MOMENT};
-use crate::settings::Builder;
+use crate::settings::{Builder, Limits};
 use crate::status::{Members, Role, Status};
 use crate::{ClientId, Clock, Disk, Error, Network, NewLog, NodeId};
 use std::collections::BTreeMap;
@@ -79,8 +79,23 @@ impl Node {
     pub(crate) fn open(settings: &Builder, mut disk: Box<dyn Disk>, clock: Box<dyn Clock>) -> Result<Self, Error> {
         let log = disk.read().map_err(Error::Disk)?;
         let (service, end) = Service::open(settings, &log)?;
-        let behind = &log[end as usize..];
-        if behind.iter().any(|byte| *byte != 0) {
+        let last = log[end as usize..].iter().rposition(|byte| *byte != 0);
+        let behind = last.map_or(0, |last| last + 1);
+        let Limits {
+            waiting_bytes,
+            unwritten_bytes,
+            frame_bytes,
+            ..
+        } = settings.limits;
+        let most = waiting_bytes
+            .saturating_add(unwritten_bytes)
+            .saturating_add(frame_bytes);
+        if behind > most {
+            return Err(Error::DamagedLog(format!(
+                "{behind} bytes behind byte {end} are none of its records, and one write has {most} at most"
+            )));
+        }
+        if behind > 0 {
             log::warn!("log: what a stop left of a last write is cut off at byte {end}");
         }
         disk.cut(end).map_err(Error::Disk)?;

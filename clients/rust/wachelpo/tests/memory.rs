@@ -8,8 +8,8 @@ use std::sync::{Arc, Mutex};
 use std::thread;
 use std::time::{Duration, Instant};
 use wachelpo::{
-    Arrival, Arrivals, ClientId, Clock, Deliveries, Delivery, Disk, Inbox, Members, MemoryDisk, Network, NewLog, Node,
-    NodeId, Role, Running, SystemClock,
+    Arrival, Arrivals, ClientId, Clock, Deliveries, Delivery, Disk, Inbox, Limits, Members, MemoryDisk, Network,
+    NewLog, Node, NodeId, Role, Running, SystemClock,
 };
 
 const LONG: Duration = Duration::from_secs(30);
@@ -631,6 +631,29 @@ fn a_disk_that_fails_ends_the_node_before_anything_is_answered() {
     let error = running.wait().unwrap_err();
     assert_eq!(error.to_string(), "disk: the disk is broken");
     assert!(answers.try_recv().is_err());
+}
+
+#[test]
+fn more_than_one_write_is_not_cut_off() {
+    let disk = MemoryDisk::new();
+    let member = alone(disk.clone(), 1 << 30);
+    member.running.stop().unwrap();
+    let whole = disk.clone().read().unwrap();
+    let open = |count: usize| {
+        let mut limits = Limits::default();
+        (limits.message_entries, limits.value_bytes) = (1, 1000);
+        (limits.waiting_bytes, limits.unwritten_bytes, limits.frame_bytes) = (10_000, 10_000, 20_000);
+        let builder = Node::builder(NodeId(1)).member(NodeId(1), "").limits(limits);
+        builder.open(MemoryDisk::of([&whole[..], &vec![7; count]].concat()))
+    };
+    open(40_000).unwrap();
+    let error = open(40_001).map(drop).unwrap_err();
+    assert!(
+        error
+            .to_string()
+            .contains("one write has 40000 at most; nothing was changed"),
+        "{error}"
+    );
 }
 
 /// A disk that is appended to once it is let, and whose new logs are so too, if there is room for them.

@@ -194,6 +194,67 @@ fn a_log_with_other_bytes_is_refused_or_lacks_its_last_record() {
     }
 }
 
+/// The files of a log, in their order.
+fn files_of(folder: &Path) -> Vec<PathBuf> {
+    let mut files: Vec<PathBuf> = fs::read_dir(folder).unwrap().map(|it| it.unwrap().path()).collect();
+    files.retain(|it| it.file_name().unwrap().to_string_lossy().starts_with("log.0"));
+    files.sort();
+    files
+}
+
+#[test]
+fn a_log_that_has_lost_bytes_in_the_middle_or_at_its_end_is_refused_and_not_changed() {
+    let mut cluster = Cluster::new(Path::new(PROGRAM), &folder("lengths"), 1, 1).unwrap();
+    let options = "--snapshot-entries 0 --log-bytes 400000";
+    cluster.options = options.split(' ').map(String::from).collect();
+    cluster.start(1).unwrap();
+    for key in 0..100 {
+        set(&cluster, &format!("k{key}"), &"v".repeat(3000));
+    }
+    // (how far the log is on disk is noted each second)
+    thread::sleep(Duration::from_secs(2));
+    cluster.kill(1).unwrap();
+    let files = files_of(&cluster.folder(1));
+    assert!(files.len() >= 5, "{files:?}");
+    let (last, end) = last_of(&cluster.folder(1));
+    let mut harms = Vec::new();
+    for path in [&files[2], &last, &files[files.len() - 1]] {
+        let whole = fs::read(path).unwrap();
+        let half = whole.len() / 2;
+        let longer = [&whole[..], &[0; 4096]].concat();
+        for bytes in [
+            whole[..whole.len() - 4096].to_vec(),
+            longer,
+            whole[..half].to_vec(),
+            Vec::new(),
+        ] {
+            harms.push((path.clone(), bytes, "and was made with"));
+        }
+    }
+    let whole = fs::read(&last).unwrap();
+    for from in [end - 40, end / 2, 0] {
+        let mut bytes = whole.clone();
+        bytes[from..].fill(0);
+        harms.push((last.clone(), bytes, "it has lost its end"));
+    }
+    for (path, bytes, told) in harms {
+        let whole = fs::read(&path).unwrap();
+        fs::write(&path, &bytes).unwrap();
+        let others = || -> Vec<_> { files.iter().map(|it| fs::read(it).unwrap()).collect() };
+        let before = others();
+        cluster.start(1).unwrap();
+        let text = refusal(&mut cluster, 1);
+        let line = text.lines().last().unwrap();
+        assert!(line.contains(told) && line.contains("nothing was changed"), "{line}");
+        assert!(others() == before);
+        fs::write(&path, whole).unwrap();
+    }
+    cluster.start(1).unwrap();
+    for key in 0..100 {
+        assert_eq!(get(&cluster, &format!("k{key}")), Some("v".repeat(3000)));
+    }
+}
+
 #[test]
 fn a_log_that_was_lost_is_not_a_new_nodes() {
     let mut cluster = begin("lost", 1);

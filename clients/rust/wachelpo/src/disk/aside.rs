@@ -1,6 +1,6 @@
 //! A new log beside another one: a file that no start reads before it has a log's name.
 
-use crate::disk::segments::write_zeros;
+use crate::disk::files::write_zeros;
 use std::fs::{self, File, OpenOptions};
 use std::io;
 use std::os::fd::AsRawFd;

@@ -1,6 +1,7 @@
 //! The folder of a node: whose it is, and who uses it.
 
-use crate::disk::{segments, Notes, Segments};
+use crate::disk::files::first_file;
+use crate::disk::{Notes, Segments};
 use crate::{FolderError, NodeId};
 use std::fs::{self, File, OpenOptions, TryLockError};
 use std::io::{self, Write};
@@ -27,7 +28,7 @@ pub struct Folder {
 }
 
 /// Replaces a file: whenever the machine stops, all of it is there, or the one before.
-fn replace(folder: &Path, name: &str, text: &str) -> io::Result<()> {
+pub(super) fn replace(folder: &Path, name: &str, text: &str) -> io::Result<()> {
     let new = folder.join(format!("{name}.new"));
     let mut file = File::create(&new)?;
     file.write_all(text.as_bytes())?;
@@ -148,7 +149,7 @@ impl Folder {
             let whose = format!("node {} of cluster {}", identity.node, identity.cluster);
             return Err(FolderError::Foreign(path.to_path_buf(), whose));
         }
-        let first = segments::first_file(path).map_err(failed)?;
+        let first = first_file(path).map_err(failed)?;
         if !first.exists() {
             return Err(FolderError::Damaged(first, "the log is missing".into()));
         }
@@ -169,14 +170,14 @@ impl Folder {
         })
     }
 
-    /// The log in the folder.
+    /// The log in the folder. It is refused if it ends before a place up to which it was noted to be on disk.
     pub fn log(&self) -> Segments {
-        Segments::new(&self.path)
+        Segments::new(&self.path).at_least(self.notes.log)
     }
 
     /// The log in the folder, in files that suit one that is replaced after so many bytes ([`Builder::log_bytes`](crate::Builder::log_bytes)).
     pub fn log_for(&self, log_bytes: u64) -> Segments {
-        Segments::for_length(&self.path, log_bytes)
+        Segments::for_length(&self.path, log_bytes).at_least(self.notes.log)
     }
 
     /// What this node says of itself.

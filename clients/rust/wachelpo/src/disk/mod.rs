@@ -1,10 +1,13 @@
 //! Where a node's log is.
 
+mod ahead;
 mod aside;
 mod blocks;
+mod files;
 mod folder;
 mod notes;
 mod noting;
+mod removal;
 mod segments;
 
 pub use folder::{Folder, Presence};

@@ -6,39 +6,29 @@
 //! files of the newest log, and removes all others. While a node runs, the files of the log before go little by little, on a thread of
 //! their own.
 
+use crate::disk::ahead::{is_full, Ahead, ASIDE};
 use crate::disk::aside::Aside;
 use crate::disk::blocks::{Blocks, BLOCK};
-use crate::disk::{Disk, NewLog};
+use crate::disk::files::{damaged, files, lengths, name, newest, note_lengths, path, read_from_disk, sync};
+use crate::disk::removal::{remove_others, Removal};
+use crate::disk::{Disk, NewLog, Position};
+use std::ffi::OsStr;
 use std::fs::{self, File, OpenOptions};
 use std::io::{self, Read, Seek, SeekFrom};
-use std::os::fd::AsRawFd;
 use std::os::unix::fs::FileExt;
 use std::path::{Path, PathBuf};
-use std::sync::atomic::{AtomicBool, AtomicUsize, Ordering};
-use std::sync::mpsc::{sync_channel, Receiver, SyncSender, TrySendError};
 use std::sync::{Arc, Mutex, PoisonError};
-use std::thread::{self, JoinHandle};
-use std::time::Duration;
 
 /// How many bytes a file has, and at least if its log is to be short.
 const SEGMENT: u64 = 16 << 20;
 const SHORT_SEGMENT: u64 = 64 << 10;
-/// The name of a file that isn't whole yet. What a crash leaves of it is none of a log's.
-const ASIDE: &str = "log.new";
 /// The name of a new log's file before it has the old one's place.
 const NEXT: &str = "log.next";
+/// The first part of the names of files that keep what was cut off a log, and how many of them stay.
+const CUT: &str = "cut.";
+const KEPT: usize = 4;
 /// The name of a file that is there once the log had anything. A log that has nothing is then a lost one, and not a new node's.
 const BEGUN: &str = "begun";
-/// How many bytes are filled at a time.
-const CHUNK: usize = 1 << 20;
-/// How long it takes until a full disk is tried again.
-const PAUSE: Duration = Duration::from_secs(1);
-/// How often it is tried while files of an old log make room.
-const AGAIN: Duration = Duration::from_millis(50);
-/// How many bytes of an old log's file are removed at a time, and how long it takes until the next ones are: with more of the one or less of
-/// the other, what is flushed meanwhile waits longer. (A gigabyte at once holds a disk up for a second.)
-const REMOVED: u64 = 1 << 20;
-const REST: Duration = Duration::from_millis(4);
 
 /// A log in files `log.000000`, `log.000001` and so on. The first one that takes its place is in `log.000001.000000`,
 /// `log.000001.000001` and so on, the next one in `log.000002.000000`.
@@ -76,6 +66,8 @@ pub struct Segments {
     before: Option<Removal>,
     /// The new log beside this one.
     next: Option<Arc<Mutex<Aside>>>,
+    /// How far it is known to have been on disk.
+    least: Position,
 }
 
 /// A new log in its file.
@@ -87,124 +79,14 @@ impl NewLog for NewSegments {
     }
 }
 
+fn read_from(file: &mut File, from: u64, into: &mut Vec<u8>) -> io::Result<()> {
+    file.seek(SeekFrom::Start(from))?;
+    file.read_to_end(into)?;
+    Ok(())
+}
+
 fn lock(aside: &Mutex<Aside>) -> std::sync::MutexGuard<'_, Aside> {
     aside.lock().unwrap_or_else(PoisonError::into_inner)
-}
-
-/// The thread that makes files ahead. It ends with this value, so that none is made in a folder that another log has meanwhile.
-struct Ahead {
-    /// None once it is to end.
-    ready: Option<Receiver<io::Result<File>>>,
-    /// The number of the last file that it makes.
-    last: Arc<AtomicUsize>,
-    thread: Option<JoinHandle<()>>,
-}
-
-impl Ahead {
-    fn start(folder: &Path, generation: u64, first: usize, size: u64, frees: Arc<AtomicBool>) -> io::Result<Self> {
-        let (to, ready) = sync_channel(0);
-        let last = Arc::new(AtomicUsize::new(usize::MAX));
-        let filler = Filler {
-            folder: folder.to_path_buf(),
-            generation,
-            size,
-            last: last.clone(),
-            frees,
-            ready: to,
-        };
-        let thread = thread::Builder::new()
-            .name("fill".into())
-            .spawn(move || filler.run(first))?;
-        Ok(Ahead {
-            ready: Some(ready),
-            last,
-            thread: Some(thread),
-        })
-    }
-
-    /// Waits for the next file.
-    fn next(&self) -> io::Result<File> {
-        let next = self.ready.as_ref().and_then(|ready| ready.recv().ok());
-        next.unwrap_or_else(|| Err(io::Error::other("no file can be made for the log")))
-    }
-
-    /// Lets none be made behind the file of this number, which is the next one. (By its number: that the one before was taken may not
-    /// have been noticed yet.)
-    fn end_with(&self, number: usize) {
-        self.last.store(number, Ordering::SeqCst);
-    }
-}
-
-impl Drop for Ahead {
-    fn drop(&mut self) {
-        self.ready = None;
-        if let Some(thread) = self.thread.take() {
-            // (it has said why it failed, if it did)
-            let _ = thread.join();
-        }
-    }
-}
-
-/// The thread that removes the files of other logs, little by little. It ends with this value.
-struct Removal {
-    /// Whether it is at work, and so makes room.
-    frees: Arc<AtomicBool>,
-    thread: Option<JoinHandle<()>>,
-}
-
-impl Removal {
-    fn start(folder: &Path, generation: u64) -> io::Result<Self> {
-        let frees = Arc::new(AtomicBool::new(true));
-        let (folder, goes_on) = (folder.to_path_buf(), frees.clone());
-        let work = move || {
-            let rest = |count: u64| {
-                thread::sleep(REST.mul_f64(count as f64 / REMOVED as f64));
-                goes_on.load(Ordering::SeqCst)
-            };
-            if let Err(error) = remove_others(&folder, generation, rest) {
-                log::error!("log: files of the one before take room until the next start: {error}");
-            }
-            goes_on.store(false, Ordering::SeqCst);
-        };
-        let thread = thread::Builder::new().name("remove".into()).spawn(work)?;
-        Ok(Removal {
-            frees,
-            thread: Some(thread),
-        })
-    }
-}
-
-impl Drop for Removal {
-    fn drop(&mut self) {
-        self.frees.store(false, Ordering::SeqCst);
-        if let Some(thread) = self.thread.take() {
-            let _ = thread.join();
-        }
-    }
-}
-
-/// Removes the files of other logs than that of this generation, little by little: as long as it may go on, which is asked after so many
-/// bytes each time.
-fn remove_others(folder: &Path, generation: u64, mut may_go_on: impl FnMut(u64) -> bool) -> io::Result<()> {
-    for file in files(folder)? {
-        if file.generation == generation {
-            continue;
-        }
-        let path = path(folder, file.generation, file.number);
-        let mut left = file.length;
-        while left > REMOVED {
-            left -= REMOVED;
-            OpenOptions::new().write(true).open(&path)?.set_len(left)?;
-            if !may_go_on(REMOVED) {
-                return Ok(());
-            }
-        }
-        fs::remove_file(&path)?;
-        if !may_go_on(left) {
-            return Ok(());
-        }
-    }
-    Ok(())
 }
 
 /// The file that is written.
@@ -241,192 +123,6 @@ impl Segment {
     }
 }
 
-/// A file of a log that is there.
-#[derive(PartialEq, Eq, PartialOrd, Ord)]
-struct Found {
-    generation: u64,
-    number: usize,
-    length: u64,
-}
-
-fn name(generation: u64, number: usize) -> String {
-    match generation {
-        0 => format!("log.{number:06}"),
-        _ => format!("log.{generation:06}.{number:06}"),
-    }
-}
-
-fn path(folder: &Path, generation: u64, number: usize) -> PathBuf {
-    folder.join(name(generation, number))
-}
-
-/// Whose file has this name, and which of them it is.
-fn parse(text: &str) -> Option<(u64, usize)> {
-    let numbers = text.strip_prefix("log.")?;
-    let (generation, number) = match numbers.split_once('.') {
-        Some((generation, number)) => (generation.parse().ok()?, number.parse().ok()?),
-        None => (0, numbers.parse().ok()?),
-    };
-    (name(generation, number) == text).then_some((generation, number))
-}
-
-fn damaged(text: String) -> io::Error {
-    io::Error::new(io::ErrorKind::InvalidData, text)
-}
-
-/// The files of all logs in a folder, those of the newest one last.
-fn files(folder: &Path) -> io::Result<Vec<Found>> {
-    let mut found = Vec::new();
-    for entry in fs::read_dir(folder)? {
-        let entry = entry?;
-        if let Some((generation, number)) = entry.file_name().to_str().and_then(parse) {
-            let length = match entry.metadata() {
-                // (one of an old log, which goes)
-                Err(error) if error.kind() == io::ErrorKind::NotFound => continue,
-                metadata => metadata?.len(),
-            };
-            found.push(Found {
-                generation,
-                number,
-                length,
-            });
-        }
-    }
-    found.sort_unstable();
-    Ok(found)
-}
-
-/// The newest log of a folder: no file of it is there before its first one is durably, nor is one of the log before removed.
-fn newest(files: &[Found]) -> u64 {
-    files.last().map_or(0, |file| file.generation)
-}
-
-/// Where the first file of a folder's log is, or is missing.
-pub(super) fn first_file(folder: &Path) -> io::Result<PathBuf> {
-    Ok(path(folder, newest(&files(folder)?), 0))
-}
-
-/// The lengths of the files of a log, which have all numbers from 0 on.
-fn lengths(folder: &Path, files: &[Found], generation: u64) -> io::Result<Vec<u64>> {
-    let own = files.iter().filter(|file| file.generation == generation);
-    let length = |(place, file): (usize, &Found)| {
-        if place != file.number {
-            return Err(damaged(format!(
-                "{} is missing",
-                path(folder, generation, place).display()
-            )));
-        }
-        Ok(file.length)
-    };
-    own.enumerate().map(length).collect()
-}
-
-fn sync(folder: &Path) -> io::Result<()> {
-    File::open(folder)?.sync_all()
-}
-
-/// Reads a file from the disk, and not from what the system remembers of it: after a write that failed, that may be what isn't there.
-fn read_from_disk(path: &Path, into: &mut Vec<u8>) -> io::Result<()> {
-    let mut file = File::open(path)?;
-    file.sync_all()?;
-    // SAFETY: the descriptor is open; it is advice, without effect on what is read.
-    unsafe { libc::posix_fadvise(file.as_raw_fd(), 0, 0, libc::POSIX_FADV_DONTNEED) };
-    file.read_to_end(into)?;
-    Ok(())
-}
-
-/// Writes so many zeros from a byte on, a little at a time.
-pub(super) fn write_zeros(
-    file: &File,
-    mut from: u64,
-    count: u64,
-    mut after_each: impl FnMut() -> io::Result<()>,
-) -> io::Result<()> {
-    let zeros = vec![0; CHUNK.min(count as usize)];
-    let end = from + count;
-    while from < end {
-        let count = (end - from).min(zeros.len() as u64);
-        file.write_all_at(&zeros[..count as usize], from)?;
-        after_each()?;
-        from += count;
-    }
-    Ok(())
-}
-
-/// Makes a file of zeros, which is there whole or not at all.
-fn fill(folder: &Path, name: &str, size: u64) -> io::Result<File> {
-    let new = folder.join(ASIDE);
-    let filled = (|| {
-        let file = File::create(&new)?;
-        // little at a time, so that the log's own writes needn't wait for all of it
-        write_zeros(&file, 0, size, || file.sync_data())?;
-        file.sync_all()?;
-        fs::rename(&new, folder.join(name))?;
-        sync(folder)?;
-        Ok(file)
-    })();
-    if filled.is_err() {
-        // half a file would only take room
-        let _ = fs::remove_file(&new);
-    }
-    filled
-}
-
-fn is_full(error: &io::Error) -> bool {
-    matches!(error.kind(), io::ErrorKind::StorageFull | io::ErrorKind::QuotaExceeded)
-}
-
-/// What the thread that makes files ahead has.
-struct Filler {
-    folder: PathBuf,
-    generation: u64,
-    size: u64,
-    last: Arc<AtomicUsize>,
-    /// Whether room is being made on the disk.
-    frees: Arc<AtomicBool>,
-    ready: SyncSender<io::Result<File>>,
-}
-
-impl Filler {
-    /// Makes a file; on a full disk as soon as there is room. Whoever needs it before is told that there is none.
-    fn fill_once_there_is_room(&self, number: usize) -> io::Result<File> {
-        let mut is_told = false;
-        loop {
-            let frees = self.frees.load(Ordering::SeqCst);
-            let filled = fill(&self.folder, &name(self.generation, number), self.size);
-            if !filled.as_ref().is_err_and(is_full) {
-                return filled;
-            }
-            if frees {
-                thread::sleep(AGAIN);
-                continue;
-            }
-            if !is_told {
-                is_told = true;
-                log::error!(
-                    "log: the disk is full: no file of {} bytes can be made, and the node ends once those before it are used",
-                    self.size
-                );
-            }
-            match self.ready.try_send(filled) {
-                Err(TrySendError::Full(_)) => thread::sleep(PAUSE),
-                Ok(()) | Err(TrySendError::Disconnected(_)) => return Err(io::ErrorKind::StorageFull.into()),
-            }
-        }
-    }
-
-    /// Makes files ahead, each once the one before it is taken.
-    fn run(&self, first: usize) {
-        for number in first.. {
-            let filled = self.fill_once_there_is_room(number);
-            let has_failed = filled.is_err();
-            if self.ready.send(filled).is_err() || has_failed || number >= self.last.load(Ordering::SeqCst) {
-                return;
-            }
-        }
-    }
-}
-
 /// A file of zeros, behind those that are used.
 struct Ready {
     file: File,
@@ -452,7 +148,14 @@ impl Segments {
             ahead: None,
             before: None,
             next: None,
+            least: Position::default(),
         }
+    }
+
+    /// The same, but that one is refused which ends before this place: it was on disk up to there.
+    pub(super) fn at_least(mut self, least: Position) -> Self {
+        self.least = least;
+        self
     }
 
     /// A log in a folder that is replaced after about so many bytes: its next files are no larger than that wants.
@@ -473,13 +176,69 @@ impl Segments {
     fn zero(&self, number: usize, from: u64) -> io::Result<File> {
         let mut file = OpenOptions::new().read(true).write(true).open(self.path(number))?;
         let mut rest = Vec::new();
-        file.seek(SeekFrom::Start(from))?;
-        file.read_to_end(&mut rest)?;
+        read_from(&mut file, from, &mut rest)?;
         if let Some(last) = rest.iter().rposition(|byte| *byte != 0) {
             file.write_all_at(&vec![0; last + 1], from)?;
             file.sync_all()?;
         }
         Ok(file)
+    }
+
+    /// Refuses a log that ends before a place up to which it was on disk.
+    fn check_end(&self, end: u64) -> io::Result<()> {
+        let generation = self.generation;
+        let at = Position { generation, end };
+        if at >= self.least {
+            return Ok(());
+        }
+        Err(damaged(format!(
+            "the log ends at {at}, and was on disk up to {}: it has lost its end; nothing was changed. Other nodes may have what it has lost: a \
+             node of a new id takes its place. (A lone node goes on without that once its file `peers` is removed)",
+            self.least
+        )))
+    }
+
+    /// What stands in the files behind the log's end, without the zeros behind that.
+    fn behind(&self, end: u64) -> io::Result<Vec<u8>> {
+        let (mut start, mut bytes) = (0, Vec::new());
+        for (number, length) in self.lengths.iter().enumerate() {
+            if end < start + length {
+                let mut file = File::open(self.path(number))?;
+                read_from(&mut file, end.saturating_sub(start), &mut bytes)?;
+            }
+            start += length;
+        }
+        let count = bytes.iter().rposition(|byte| *byte != 0).map_or(0, |last| last + 1);
+        bytes.truncate(count);
+        Ok(bytes)
+    }
+
+    /// Keeps what is to be cut off in a file of its own, and the last ones of before.
+    fn keep_behind(&self, end: u64) -> io::Result<()> {
+        let bytes = self.behind(end)?;
+        if bytes.is_empty() {
+            return Ok(());
+        }
+        let kept = self.folder.join(format!("{CUT}{:06}.{end:012}", self.generation));
+        let file = File::create(&kept)?;
+        file.write_all_at(&bytes, 0)?;
+        file.sync_all()?;
+        log::warn!(
+            "log: {} bytes that are cut off are kept as {}",
+            bytes.len(),
+            kept.display()
+        );
+        let mut others = Vec::new();
+        for entry in fs::read_dir(&self.folder)? {
+            let path = entry?.path();
+            let is_cut = |name: &OsStr| name.to_string_lossy().starts_with(CUT);
+            others.extend((path != kept && path.file_name().is_some_and(is_cut)).then_some(path));
+        }
+        others.sort();
+        for old in others.iter().rev().skip(KEPT - 1) {
+            fs::remove_file(old)?;
+        }
+        sync(&self.folder)
     }
 
     /// Notes once that the log has something: before anybody relies on that.
@@ -580,6 +339,7 @@ impl Segments {
         self.ahead = None;
         aside.end()?;
         after();
+        note_lengths(&self.folder, [(name(self.generation + 1, 0), aside.length)])?;
         aside.rename(&path(&self.folder, self.generation + 1, 0))?;
         after();
         sync(&self.folder)?;
@@ -610,6 +370,7 @@ impl Disk for Segments {
     }
 
     fn cut(&mut self, end: u64) -> io::Result<()> {
+        self.check_end(end)?;
         self.is_begun = self.folder.join(BEGUN).try_exists()?;
         match end {
             0 if self.is_begun => {
@@ -620,8 +381,14 @@ impl Disk for Segments {
             0 => {}
             _ => self.note_begun()?,
         }
+        self.keep_behind(end)?;
         // a log that a stop has left in its place may not be there durably yet
         sync(&self.folder)?;
+        let made = self.lengths.iter().enumerate();
+        note_lengths(
+            &self.folder,
+            made.map(|(number, length)| (name(self.generation, number), *length)),
+        )?;
         remove_others(&self.folder, self.generation, |_| true)?;
         self.remove_parts()?;
         let mut start = 0;
@@ -688,7 +455,12 @@ impl Disk for Segments {
 #[cfg(test)]
 mod tests {
     use super::*;
+    use crate::disk::files::{parse, Found};
+    use crate::disk::removal::{REMOVED, REST};
     use crate::scratch::Scratch;
+    use std::sync::mpsc::sync_channel;
+    use std::thread;
+    use std::time::Duration;
 
     fn reopened(folder: &Path, end: u64) -> Segments {
         reopened_with(100, folder, end)
@@ -743,13 +515,17 @@ mod tests {
 
     #[test]
     fn a_log_that_was_lost_is_not_a_new_one() {
-        for length in [0, 100] {
+        // (files of before are of any length)
+        for (length, lengths) in [(0, false), (100, true)] {
             let scratch = Scratch::new(&format!("begun-{length}"));
             // (a start that writes nothing leaves it new)
             reopened(scratch.path(), 0);
             reopened(scratch.path(), 0).append(&[7; 50]).unwrap();
             for file in files(scratch.path()).unwrap() {
                 fs::write(path(scratch.path(), 0, file.number), vec![0; length]).unwrap();
+            }
+            if !lengths {
+                fs::remove_file(scratch.path().join("lengths")).unwrap();
             }
             let mut log = Segments::with_size(scratch.path(), 100);
             assert!(log.read().unwrap().iter().all(|byte| *byte == 0));
@@ -803,12 +579,121 @@ mod tests {
         let generation = log.generation();
         // (its thread ends first)
         drop(log);
-        let is_its = |name: &str| name == BEGUN || parse(name).is_some_and(|(of, _)| of == generation);
+        let is_its = |name: &str| {
+            let is_its_file = parse(name).is_some_and(|(of, _)| of == generation);
+            is_its_file || [BEGUN, "lengths"].contains(&name) || name.starts_with(CUT)
+        };
         for entry in fs::read_dir(folder).unwrap() {
             let name = entry.unwrap().file_name().into_string().unwrap();
             assert!(is_its(&name), "{when}: {name} is left");
         }
         assert_found(folder, &[bytes, &more].concat(), when);
+    }
+
+    fn refusal(folder: &Path) -> String {
+        Segments::new(folder).read().unwrap_err().to_string()
+    }
+
+    #[test]
+    fn a_file_of_another_length_than_it_was_made_with_is_refused_and_nothing_is_changed() {
+        let scratch = Scratch::new("lengths");
+        let folder = scratch.path();
+        let mut log = reopened(folder, 0);
+        log.append(&[7; 350]).unwrap();
+        drop(log);
+        let lengths: Vec<u64> = files(folder).unwrap().iter().map(|file| file.length).collect();
+        assert!(lengths.len() >= 5, "one is ahead");
+        for number in 0..lengths.len() {
+            let path = path(folder, 0, number);
+            let whole = fs::read(&path).unwrap();
+            let longer = [&whole[..], &[0]].concat();
+            for bytes in [&whole[..99], &whole[..50], &[], &longer] {
+                fs::write(&path, bytes).unwrap();
+                let expected = format!("has {} bytes, and was made with 100; nothing was changed", bytes.len());
+                assert!(refusal(folder).ends_with(&expected), "{}", refusal(folder));
+                assert_eq!(fs::read(&path).unwrap(), bytes);
+            }
+            fs::write(&path, whole).unwrap();
+        }
+        assert_goes_on(100, folder, &[7; 350], "whole");
+        // so is the first file of a new log
+        let mut log = reopened(folder, 451);
+        replace(&mut log, &[&[8; 130]]);
+        drop(log);
+        let first = path(folder, 1, 0);
+        OpenOptions::new()
+            .write(true)
+            .open(&first)
+            .unwrap()
+            .set_len(100)
+            .unwrap();
+        assert!(refusal(folder).contains("has 100 bytes, and was made with 200"));
+        // files of before are taken as they are, and known then
+        fs::remove_file(folder.join("lengths")).unwrap();
+        drop(reopened(folder, 100));
+        OpenOptions::new()
+            .write(true)
+            .open(&first)
+            .unwrap()
+            .set_len(99)
+            .unwrap();
+        assert!(refusal(folder).contains("has 99 bytes, and was made with 100"));
+        fs::write(folder.join("lengths"), "garbage\n").unwrap();
+        assert!(refusal(folder).contains("lengths: it isn't what a log has written"));
+    }
+
+    #[test]
+    fn a_log_that_has_lost_its_end_is_refused_and_nothing_is_changed() {
+        let scratch = Scratch::new("least");
+        let folder = scratch.path();
+        let mut log = reopened(folder, 0);
+        log.append(&[7; 350]).unwrap();
+        drop(log);
+        let cut = |end, generation, least| {
+            let least = Position { generation, end: least };
+            let mut log = Segments::with_size(folder, 100).at_least(least);
+            log.read().unwrap();
+            log.cut(end).map_err(|error| error.to_string())
+        };
+        let text = cut(349, 0, 350).unwrap_err();
+        assert!(text.starts_with("the log ends at byte 349 after 0 new logs, and was on disk up to byte 350 after 0"));
+        cut(350, 1, 3).unwrap_err();
+        assert_found(folder, &[7; 350], "refused");
+        cut(350, 0, 350).unwrap();
+        cut(350, 0, 349).unwrap();
+    }
+
+    #[test]
+    fn what_is_cut_off_is_kept() {
+        let scratch = Scratch::new("kept");
+        let folder = scratch.path();
+        let kept = || {
+            let names = fs::read_dir(folder)
+                .unwrap()
+                .map(|it| it.unwrap().file_name().into_string().unwrap());
+            let mut names: Vec<String> = names.filter(|it| it.starts_with(CUT)).collect();
+            names.sort();
+            names
+        };
+        let mut log = reopened(folder, 0);
+        for _ in 0..2 {
+            log.append(&[7; 350]).unwrap();
+            drop(log);
+            log = reopened(folder, 150);
+            assert_eq!(kept(), ["cut.000000.000000000150"]);
+            let bytes = fs::read(folder.join(&kept()[0])).unwrap();
+            assert!(bytes.len() >= 200 && bytes.iter().all(|byte| *byte == 7));
+            drop(log);
+            assert_found(folder, &[7; 150], "cut");
+            log = reopened(folder, 150);
+        }
+        for count in 1..=10 {
+            drop(log);
+            log = reopened(folder, count);
+            log.append(&[9; 50]).unwrap();
+        }
+        let last: Vec<String> = [8, 9, 10, 150].map(|end| format!("cut.000000.{end:012}")).to_vec();
+        assert_eq!(kept(), last);
     }
 
     #[test]
@@ -860,7 +745,10 @@ mod tests {
         let copy = Scratch::new(to);
         for entry in fs::read_dir(from).unwrap() {
             let path = entry.unwrap().path();
-            fs::copy(&path, copy.path().join(path.file_name().unwrap())).unwrap();
+            // (a thread may just give one that is being made its name)
+            if path.extension().is_none_or(|it| it != "new") {
+                fs::copy(&path, copy.path().join(path.file_name().unwrap())).unwrap();
+            }
         }
         copy
     }
