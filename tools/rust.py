@@ -1,5 +1,6 @@
 """Reads source files (.rt): what they declare, and of each function its head, its clauses and its body."""
 
+import functools
 import re
 from typing import NamedTuple
 
@@ -37,7 +38,8 @@ class Item(NamedTuple):
 
     kind: str
     name: str
-    # where it begins (after its attributes), its block begins and ends, or it ends without one; and the place behind it
+    # where its attributes begin, it does, its block does and ends, or it ends without one; and the place behind it
+    begins: int
     first: int
     opens: int
     closes: int
@@ -65,6 +67,18 @@ class Item(NamedTuple):
         end = words.index("where") if "where" in words else len(words)
         middle = words.index("for", at) if "for" in words[at:end] else None
         return (words[at:middle], words[middle + 1 : end]) if middle else ((), words[at:end])
+
+    def owner(self):
+        """The name by which what stands in an `impl` goes, `Engine` or `EngineDisplay`, and whether that is the type's own."""
+        trait, of = self.implements()
+        return last_name(of) + last_name(trait), not trait
+
+
+def last_name(words):
+    """The last name of a path, without generic parameters; a tuple as it is written."""
+    if words[:1] == ("(",):
+        return "".join(words).replace(",", ", ")
+    return words[words.index("<") - 1 if "<" in words else -1] if words else ""
 
 
 def generics_end(words, at):
@@ -122,7 +136,7 @@ class Reader:
 
     def item(self, at):
         """The item that begins at a place (none if attributes of the whole file do), and the place after it."""
-        attributes = []
+        attributes, begins = [], self.starts[at]
         while self.word(at) == "#":
             is_of_file = self.word(at + 1) == "!"
             opened = at + 1 + is_of_file
@@ -141,13 +155,15 @@ class Reader:
         kind = self.word(at)
         if kind == "ghost":
             return self.ghost(at)
+        known = {"begins": begins, "is_public": is_public, "attributes": tuple(attributes)}
         read = self.function if kind == "fn" else self.container if kind in CONTAINERS else self.plain
-        return read(kind, at, first, is_public=is_public, attributes=tuple(attributes))
+        return read(kind, at, first, **known)
 
     def made(self, kind, name, first, opens, closes, **known):
         """An item, and the place behind it."""
-        places = (self.starts[first], self.starts[opens], self.starts[closes], self.starts[closes] + 1)
-        return Item(kind, name, *places, **{"head": tuple(self.words[first:opens]), **known}), closes + 1
+        places = {"first": self.starts[first], "opens": self.starts[opens], "closes": self.starts[closes]}
+        places |= {"begins": self.starts[first], "end": self.starts[closes] + 1, "head": tuple(self.words[first:opens])}
+        return Item(kind, name, **{**places, **known}), closes + 1
 
     def ghost(self, at):
         """A ghost item, or a `ghost use`."""
@@ -188,6 +204,25 @@ class Reader:
         return self.made(kind, self.word(at + 1), first, opens, end, block=block, **known)
 
 
+# (a test reads most texts again)
+@functools.cache
 def read_items(text):
-    """What a source file declares."""
+    """What a source text declares."""
     return list(Reader(text).items())
+
+
+def read_file(file):
+    """What a source file declares."""
+    try:
+        return read_items(file.read_text())
+    except Failure as error:
+        raise Failure(f"{file}: {error}") from None
+
+
+def functions_in(items, block=None):
+    """The functions in these items, each with the trait or the `impl` that it stands in."""
+    for it in items:
+        if it.kind == "fn":
+            yield it, block
+        elif it.kind in CONTAINERS:
+            yield from functions_in(it.inside, None if it.kind == "mod" else it)
