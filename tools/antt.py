@@ -1,5 +1,6 @@
 """Reads files of specifications: what they import, and each definition as its tokens, without comments and layout."""
 
+import functools
 import re
 from typing import NamedTuple
 
@@ -9,8 +10,8 @@ TOKEN = re.compile(rf'--.*|"(?:\\.|[^"\\])*"|(?:{NAME})(?:\.(?:{NAME}))*|[(){{}}
 # before a signature
 MARKS = ("unfoldable", "abbrev", "pub")
 FIXITIES = ("infix", "infixl", "infixr")
-# what would bring names in, or group definitions, by rules that aren't known here
-UNKNOWN = ("open", "mutual", "ruleset", "axiom", "package", "deriving", "unfold")
+# what would bring names in, or be more than a definition, by rules that aren't known here
+UNKNOWN = ("open", "ruleset", "axiom", "package", "deriving", "unfold")
 HOLE = "◌"
 
 
@@ -135,7 +136,7 @@ def definitions_of(lines, above=()):
         word = own[at]
         if word in UNKNOWN or word == "module" and own[at + 1] != "_":
             raise Failure(f"{word} {own[at + 1]}: begins no item that is known here")
-        if word not in ("record", "data", "module", *FIXITIES) and not is_signature(own):
+        if names and word not in ("record", "data", "module", "mutual", *FIXITIES) and not is_signature(own):
             tokens += own
             continue
         if names:
@@ -143,6 +144,8 @@ def definitions_of(lines, above=()):
         names, tokens = (), []
         if word in FIXITIES:
             fixity += own
+        elif word == "mutual":
+            yield from definitions_of(block[1:], above)
         elif word == "module":
             head = head_of(block)
             yield from definitions_of(block[head:], (*above, "\n", *flat(block[:head])))
@@ -150,7 +153,9 @@ def definitions_of(lines, above=()):
             at += word in ("record", "data")
             name = own[at]
             if not is_signature(own) or own[at + 1] not in (":", "{", "("):
-                raise Failure(f"{name} {own[at + 1]}: declares nothing that is known here")
+                raise Failure(f"{name} {own[at + 1]}: declares nothing")
+            if fixity and fixity[-1] != name:
+                raise Failure(f"{' '.join(fixity).strip()}: stands above {name}")
             names = (name, *(constructors_of(block) if word == "data" else ()))
             tokens, fixity = [*above, *fixity, *own], []
             declares = len(tokens)
@@ -158,8 +163,9 @@ def definitions_of(lines, above=()):
         yield Definition(names, tokens, declares)
 
 
-def read_file(text):
-    """What a file of specifications has."""
+@functools.cache
+def read_text(text):
+    """What a text of specifications has."""
     imports, modules, rest = [], [], []
     for block in blocks_of(list(lines_of(text))):
         tokens = flat(block)
@@ -172,3 +178,11 @@ def read_file(text):
         else:
             rest += block
     return File(imports, modules, list(definitions_of(rest)))
+
+
+def read_file(file):
+    """What a file of specifications has."""
+    try:
+        return read_text(file.read_text())
+    except Failure as error:
+        raise Failure(f"{file}: {error}") from None

@@ -2,7 +2,6 @@
 
 A place is a module or an item by its whole name, as `raft_state::ids::LogId` or `raft_state.specs.Log.last`."""
 
-import functools
 from typing import NamedTuple
 
 import antt
@@ -53,20 +52,6 @@ def uses_of(words, path=()):
         yield words[0], (*path, words[0])
 
 
-# (a test reads most texts again)
-@functools.cache
-def read_text(reader, text):
-    return reader(text)
-
-
-def read(reader, file):
-    """What a file has."""
-    try:
-        return read_text(reader, file.read_text())
-    except (antt.Failure, rust.Failure) as error:
-        raise Failure(f"{file}: {error}") from None
-
-
 def files_of(folder, ending):
     """The files below a folder, each with the names of the modules on the way to it."""
     for file in sorted(folder.rglob(f"*{ending}")):
@@ -83,7 +68,7 @@ class Names:
         self.items, self.definitions, self.code = {}, {}, {}
         for crate in crates:
             for file, within in files_of(top / "crates" / crate / "src", ".rt"):
-                self.read_code("::".join((crate, *within)), read(rust.read_items, file))
+                self.read_code("::".join((crate, *within)), rust.read_file(file))
 
     def read_code(self, module, items):
         """Takes what a module of code has."""
@@ -137,7 +122,7 @@ class Names:
         file = (self.top / "crates" / crate / kind).joinpath(*within or ["Lib"]).with_suffix(".antt")
         if not file.is_file():
             raise Failure(f"{place} is no file")
-        found = read(antt.read_file, file)
+        found = antt.read_file(file)
         # (what rattle makes of the code stands beside the files)
         names = {} if within else {"declared": crate, "contracts": crate}
         names |= {it: f"{place}.{it}" for it in found.modules}
