@@ -8,6 +8,7 @@ use crate::messages::message_line;
 use crate::queue::queue_line;
 use crate::replication::replication_line;
 use crate::replies::reply_line;
+use crate::table::table_line;
 use anyhow::{Context, Result, bail};
 use std::alloc::Global;
 
@@ -20,6 +21,7 @@ fn step(alloc: Global, target: &mut Target, words: &[&str], given: &mut Vec<u8>)
         ["message", words @ ..] => message_line(alloc, words, given),
         ["replication", words @ ..] => replication_line(alloc, words, given),
         ["reply", words @ ..] => reply_line(words, given),
+        ["table", words @ ..] => table_line(alloc, words, given),
         ["command", words @ ..] => command_line(alloc, words, given),
         ["queue", words @ ..] => queue_line(alloc, words, given),
         _ => bail!("no such line"),

@@ -13,6 +13,7 @@ mod messages;
 mod queue;
 mod replication;
 mod replies;
+mod table;
 
 use anyhow::Result;
 use std::alloc::Global;

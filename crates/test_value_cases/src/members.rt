@@ -23,7 +23,7 @@ fn show_members(members: &Membership<u64, u64>, given: &mut Vec<u8>) -> Result<(
 }
 
 /// The quorum set of these groups.
-fn joint(alloc: Global, word: &str) -> Result<Joint<u64>> {
+pub fn joint(alloc: Global, word: &str) -> Result<Joint<u64>> {
     Ok(Joint::new(groups(alloc, word)?)?)
 }
 

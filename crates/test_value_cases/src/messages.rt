@@ -1,6 +1,6 @@
 //! Lines `message ..`, of messages between nodes.
 //!
-//! - `append-responses ID VOTE`: all responses to an append, with the id of a partial success and a greater vote
+//! - `append-responses ID|None VOTE`: all responses to an append, with the id of a partial success and a greater vote
 //! - `appended VOTE LOCAL EXPECTED`: the responses to what came of an append: done, rejected by a vote, by a vote request's
 //!   rejection, and by the log
 //! - `snapshot-response VOTE`: that to a whole snapshot, and that to a part of it
@@ -66,9 +66,9 @@ fn show_response(response: AppendEntriesResponse<u64>, given: &mut Vec<u8>) -> R
     )
 }
 
-fn tell_responses(id: LogId<u64>, held: Vote<u64>, given: &mut Vec<u8>) -> Result<()> {
+fn tell_responses(id: Option<LogId<u64>>, held: Vote<u64>, given: &mut Vec<u8>) -> Result<()> {
     show_response(AppendEntriesResponse::Success, given)?;
-    show_response(AppendEntriesResponse::PartialSuccess(Some(id)), given)?;
+    show_response(AppendEntriesResponse::PartialSuccess(id), given)?;
     show_response(AppendEntriesResponse::Conflict, given)?;
     show_response(AppendEntriesResponse::HigherVote(held), given)
 }
@@ -102,7 +102,7 @@ fn snapshot_response(held: Vote<u64>, given: &mut Vec<u8>) -> Result<()> {
 /// A line of these.
 pub fn message_line(alloc: Global, words: &[&str], given: &mut Vec<u8>) -> Result<()> {
     match words {
-        ["append-responses", id, held] => tell_responses(log_id(id)?, vote(held)?, given),
+        ["append-responses", id, held] => tell_responses(optional_id(id)?, vote(held)?, given),
         ["appended", held, local, expected] => {
             tell_appended(vote(held)?, optional_id(local)?, log_id(expected)?, given)
         }
