@@ -3,7 +3,8 @@
 //! - `made-candidate GROUPS LEARNERS VOTE LAST TIME NODE..`: a candidate, what each node's grant gives, and the leader that it
 //!   becomes
 //! - `made-leader VOTE ID..`: a leader of the voters 1, 2 and 3 and the learner 4, of whose log these ids are the ends
-//! - `assign VOTE LAST COUNT..`: the ids that such a leader gives to so many entries, which have the id 1-1-1 before
+//! - `assign VOTE LAST COUNT|ID..`: the ids that such a leader gives to so many entries, which have the id 1-1-1 before, or
+//!   to one, which has this id before
 //! - `clock VOTE NODE=TIME@NOW..`: when a quorum has answered it, asked at a moment once a node has answered at a time
 //! - `purge-end KEEP BATCH PURGED SNAPSHOT ID..`: up to where a log of these ids is to be purged
 
@@ -15,13 +16,13 @@ use anyhow::{Result, bail};
 use raft_command::{EngineConfig, EngineOutput};
 use raft_engine::{Candidate, Leader, LogHandler};
 use raft_progress::Joint;
-use raft_state::{LogId, RaftEntry, RaftState, Vote};
+use raft_state::{LogId, RaftState, Vote};
 use std::alloc::Global;
 use test_words::commands::write_entries;
 use test_words::show::{Answer, show_id, tell};
 use test_words::text::{put, put_line};
 use test_words::types::{Item, Small};
-use test_words::words::{groups, log_id, log_ids, node_ids, number, optional_id, vote};
+use test_words::words::{groups, log_ids, node_ids, noop, number, optional_id, vote};
 
 fn is_below_end(id: Option<LogId<u64>>) -> bool
     ensures { IsTrue result ↔ (next id < 2 ^ 64) }
@@ -156,13 +157,22 @@ fn tell_leader(alloc: Global, led: &str, ends: &[&str], given: &mut Vec<u8>) -> 
     show_leader(&made_leader(alloc, led, ends)?, given)
 }
 
-/// So many entries that have the id 1-1-1.
-fn unassigned(alloc: Global, count: u64) -> Result<Vec<Item>> {
+/// So many entries with an id.
+fn with_id(alloc: Global, count: u64, id: &str) -> Result<Vec<Item>> {
     let mut entries = Vec::new(alloc);
     for _ in 0..count {
-        entries.push(Item::new_blank(log_id("1-1-1")?))?;
+        entries.push(noop(id)?)?;
     }
     Ok(entries)
+}
+
+/// So many entries that have the id 1-1-1, or one that has the given id.
+fn unassigned(alloc: Global, word: &str) -> Result<Vec<Item>> {
+    if word.contains('-') {
+        with_id(alloc, 1, word)
+    } else {
+        with_id(alloc, number(word)?, "1-1-1")
+    }
 }
 
 fn assign_to(
@@ -181,21 +191,21 @@ fn assign_to(
 fn assign(
     alloc: Global,
     leader: &mut Leader<Small, Joint<u64>>,
-    count: u64,
+    word: &str,
     given: &mut Vec<u8>,
 ) -> Result<()> {
-    let mut entries = unassigned(alloc, count)?;
+    let mut entries = unassigned(alloc, word)?;
     assign_to(leader, entries.as_mut_slice(), given)
 }
 
 fn assign_all(
     alloc: Global,
     leader: &mut Leader<Small, Joint<u64>>,
-    counts: &[&str],
+    words: &[&str],
     given: &mut Vec<u8>,
 ) -> Result<()> {
-    for count in counts {
-        assign(alloc, leader, number(count)?, given)?;
+    for word in words {
+        assign(alloc, leader, word, given)?;
     }
     Ok(())
 }
@@ -205,10 +215,10 @@ fn assign_of(
     alloc: Global,
     led: &str,
     ends: &[&str],
-    counts: &[&str],
+    words: &[&str],
     given: &mut Vec<u8>,
 ) -> Result<()> {
-    assign_all(alloc, &mut made_leader(alloc, led, ends)?, counts, given)
+    assign_all(alloc, &mut made_leader(alloc, led, ends)?, words, given)
 }
 
 /// A node has answered at a time, as `2=100@150`, and the leader is asked at the moment after the `@`.
@@ -318,8 +328,8 @@ fn candidate_line(alloc: Global, words: &[&str], given: &mut Vec<u8>) -> Result<
 fn leader_line(alloc: Global, words: &[&str], given: &mut Vec<u8>) -> Result<()> {
     match words {
         ["made-leader", led, ends @ ..] => tell_leader(alloc, led, ends, given),
-        ["assign", led, "None", counts @ ..] => assign_of(alloc, led, &[], counts, given),
-        ["assign", led, last, counts @ ..] => assign_of(alloc, led, &[last], counts, given),
+        ["assign", led, "None", words @ ..] => assign_of(alloc, led, &[], words, given),
+        ["assign", led, last, words @ ..] => assign_of(alloc, led, &[last], words, given),
         ["clock", led, answers @ ..] => clock_of(alloc, led, answers, given),
         _ => bail!("no such call"),
     }
