@@ -58,7 +58,7 @@ enum wachelpo_output {
                                 ?executed index, how many voters, each id, how many learners, each id, clients, requests that wait;
                                 ? is 0 and 0, or 1 and the number. Role, leader, term and members are those of the entries that were
                                 executed last */
-    WACHELPO_OUT_ERROR = 7,  /* number: the code that the call returned, body: a text */
+    WACHELPO_OUT_ERROR = 7,  /* number: the code that the call returned, body: a text. Left out if there is no memory for that */
     WACHELPO_OUT_OPENED = 8, /* number: how many bytes of the log are kept: the others are cut off, and that is synced, first of all */
     WACHELPO_OUT_NEW_LOG = 9, /* a new log, for a file beside the old one, which goes on; number: where it ends. The library has its bytes */
     WACHELPO_OUT_MORE = 10,  /* more is left to be done by IDLE */

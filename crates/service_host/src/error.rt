@@ -1,6 +1,7 @@
 //! Why a call was refused.
 
-ghost use Rattle.std.specs.Prelude.{◌≤◌};
+ghost use Rattle.std.specs.Prelude.{◌≡◌, ◌≤◌};
+ghost use Rattle.service_host.specs.Errors.{ends, number_of};
 
 use raft_service::raft_core::{CoreError, FrameError, RequestError};
 use raft_service::{ConnectError, OpenError};
@@ -45,6 +46,7 @@ pub enum HostError {
 impl HostError {
     /// The number of the error, as callers get it.
     pub fn code(&self) -> u32
+        ensures number { result ≡ number_of self.now }
         ensures least { 1 ≤ result }
         ensures most { result ≤ 10 }
     {
@@ -63,7 +65,9 @@ impl HostError {
     }
 
     /// Whether the service is gone.
-    pub(crate) fn ends(&self) -> bool {
+    pub(crate) fn ends(&self) -> bool
+        ensures { result ≡ ends (number_of self.now) }
+    {
         matches!(self, HostError::OutOfMemory | HostError::Stopped(_))
     }
 }

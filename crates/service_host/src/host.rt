@@ -1,6 +1,7 @@
 //! A service behind calls of numbers and bytes.
 
-ghost use Rattle.std.specs.Prelude.{◌≡◌, ◌≤◌, ◌++◌, [], IfOk, OnOk, length, take, drop, min};
+ghost use Rattle.std.specs.Prelude.{◌≡◌, ◌≤◌, ◌++◌, [], None, true, if◌then◌else◌, IfOk, OnOk, length, take, drop, min};
+ghost use Rattle.service_host.specs.Errors.{ends, number_of};
 ghost use Rattle.service_host.specs.Frames.{frames};
 ghost use Rattle.service_host.specs.Host.{Does, Feeding, Serves, unread};
 ghost use Rattle.service_host.specs.declared.inputs.Input.TheVariants.{BeginLog, Idle, TakeOver};
@@ -242,25 +243,27 @@ impl Host {
         }
     }
 
-    /// Ends a call that was refused: what it put out is why.
+    /// Ends a call that was refused: what it put out is why, or nothing if there is no memory for that.
     fn fail(&mut self, error: HostError) -> u32
-        ensures { result ≤ 10 }
+        ensures number { result ≡ number_of error }
+        ensures bound { result ≤ 10 }
+        ensures running { self.new.running ≡ (if ends result then None else self.old.running) }
     {
         if error.ends() {
             self.running = None;
         }
         self.out.clear();
-        let code = error.code();
-        match write_error(self.alloc, &mut self.out, &error) {
-            Ok(()) => code,
-            Err(_) => HostError::OutOfMemory.code(),
+        if write_error(self.alloc, &mut self.out, &error).is_err() {
+            self.out.clear();
         }
+        error.code()
     }
 
     /// Hands in an input ([`input_of`]), and returns 0, or the code of the refusal ([`HostError::code`]). What it puts out is read
     /// by [`Host::read`]; what the call before put out is gone.
     pub fn call(&mut self, number: u32, first: u64, second: u64, bytes: &[u8]) -> u32
-        ensures { result ≤ 10 }
+        ensures bound { result ≤ 10 }
+        ensures gone { ends result ≡ true → self.new.running ≡ None }
     {
         self.out.clear();
         self.read = 0;
