@@ -1,5 +1,11 @@
 //! The settings of a service as bytes.
 
+ghost use Rattle.std.specs.Prelude.{◌≡◌, ◌+◌, ◌++◌, [], ◌∷◌, IfOk, OnOk};
+ghost use Rattle.std.specs.Ordering.{nat_cmp};
+ghost use Rattle.raft_state.specs.Members.{members_of};
+ghost use Rattle.service_host.specs.Settings.{behind_numbers, behind_server, behind_servers, engine_at, given_at, given_of, ids_at, number_at};
+ghost use Rattle.service_host.specs.Settings.{numbers_at, policy_of};
+
 use crate::bytes::{Cursor, Unread};
 use crate::error::HostError;
 use raft_answers::Limits;
@@ -15,6 +21,9 @@ use std::collections::BTreeMap;
 /// The version of the settings' form.
 const VERSION: u64 = 2;
 
+/// The id in settings that all servers have in common: each engine puts in its own.
+const NOBODY: u64 = 0;
+
 /// The servers of a cluster: their ids, and where clients reach them.
 #[derive(Drop)]
 struct Servers {
@@ -23,25 +32,26 @@ struct Servers {
 }
 
 /// One more server.
-fn read_server(cursor: &mut Cursor<'_>, servers: &mut Servers) -> Result<(), Unread> {
+fn read_server(cursor: &mut Cursor<'_>, servers: &mut Servers) -> Result<(), Unread>
+    ensures ids { OnOk result (servers.new.ids.items ≡ servers.old.ids.items ++ (number_at cursor.old ∷ [])) }
+    ensures rest { OnOk result (cursor.new ≡ behind_server cursor.old) }
+{
     let id = cursor.number()?;
     let host = cursor.bytes()?;
     let port = cursor.port()?;
-    if servers.ids.push(id).is_err() {
-        return Err(Unread::OutOfMemory);
-    }
-    if servers
-        .addresses
-        .insert(id, Address { host, port })
-        .is_err()
-    {
+    servers.ids.push(id)?;
+    let address = Address { host, port };
+    if servers.addresses.insert(id, address).is_err() {
         return Err(Unread::OutOfMemory);
     }
     Ok(())
 }
 
 /// Servers, behind how many there are.
-fn read_servers(alloc: Global, cursor: &mut Cursor<'_>) -> Result<Servers, Unread> {
+fn read_servers(alloc: Global, cursor: &mut Cursor<'_>) -> Result<Servers, Unread>
+    ensures ids { IfOk result (λ servers. servers.ids.items ≡ ids_at (number_at cursor.old) (behind_numbers 1 cursor.old)) }
+    ensures rest { OnOk result (cursor.new ≡ behind_servers (number_at cursor.old) (behind_numbers 1 cursor.old)) }
+{
     let mut servers = Servers {
         ids: Vec::new(alloc),
         addresses: BTreeMap::new(alloc),
@@ -53,17 +63,21 @@ fn read_servers(alloc: Global, cursor: &mut Cursor<'_>) -> Result<Servers, Unrea
 }
 
 /// The first voters, behind how many there are.
-fn read_membership(alloc: Global, cursor: &mut Cursor<'_>) -> Result<Membership<u64, ()>, Unread> {
+fn read_membership(alloc: Global, cursor: &mut Cursor<'_>) -> Result<Membership<u64, ()>, Unread>
+    ensures membership { IfOk result (λ m. m ≡ members_of nat_cmp (record {}) (numbers_at (number_at cursor.old) (behind_numbers 1 cursor.old) ∷ []) []) }
+    ensures rest { OnOk result (cursor.new ≡ behind_numbers (number_at cursor.old + 1) cursor.old) }
+{
     let voters = cursor.numbers()?;
     let mut groups = Vec::new(alloc);
-    if groups.push(voters).is_err() {
-        return Err(Unread::OutOfMemory);
-    }
+    groups.push(voters)?;
     Ok(Membership::new(alloc, groups, Vec::new(alloc))?)
 }
 
 /// When a snapshot is built: after so many entries, or never.
-fn read_policy(cursor: &mut Cursor<'_>) -> Result<SnapshotPolicy, Unread> {
+fn read_policy(cursor: &mut Cursor<'_>) -> Result<SnapshotPolicy, Unread>
+    ensures policy { IfOk result (λ policy. policy ≡ policy_of (number_at cursor.old)) }
+    ensures rest { OnOk result (cursor.new ≡ behind_numbers 1 cursor.old) }
+{
     match cursor.number()? {
         0 => Ok(SnapshotPolicy::Never),
         entries => Ok(SnapshotPolicy::LogsSinceLast(entries)),
@@ -71,14 +85,16 @@ fn read_policy(cursor: &mut Cursor<'_>) -> Result<SnapshotPolicy, Unread> {
 }
 
 /// Spans of time, how many entries a message has, and which are kept behind a snapshot.
-fn read_engine(cursor: &mut Cursor<'_>, id: u64) -> Result<EngineConfig<u64>, Unread> {
+fn read_engine(cursor: &mut Cursor<'_>) -> Result<EngineConfig<u64>, Unread>
+    ensures { IfOk result (λ settings. settings ≡ engine_at cursor.old) }
+{
     let election_timeout = cursor.number()?;
     let lease = cursor.number()?;
     let max_payload_entries = cursor.number()?;
     let snapshot_policy = read_policy(cursor)?;
     let kept_entries = cursor.number()?;
     Ok(EngineConfig::new(
-        id,
+        NOBODY,
         snapshot_policy,
         kept_entries,
         1,
@@ -169,26 +185,41 @@ fn read_connections(cursor: &mut Cursor<'_>) -> Result<raft_connection::Settings
     })
 }
 
-fn read_all(alloc: Global, cursor: &mut Cursor<'_>) -> Result<Settings, Unread> {
+/// What servers have in common, and where clients reach each of them.
+fn read_given(
+    alloc: Global,
+    cursor: &mut Cursor<'_>,
+) -> Result<(Given, BTreeMap<u64, Address>), Unread>
+    ensures { IfOk result (λ found. found.0 ≡ given_at cursor.old) }
+{
+    let servers = read_servers(alloc, cursor)?;
+    let membership = read_membership(alloc, cursor)?;
+    let settings = read_engine(cursor)?;
+    let ids = sorted_ids(alloc, servers.ids)?;
+    let given = Given {
+        ids,
+        membership,
+        settings,
+    };
+    Ok((given, servers.addresses))
+}
+
+fn read_all(alloc: Global, cursor: &mut Cursor<'_>) -> Result<Settings, Unread>
+    ensures { IfOk result (λ settings. settings.given ≡ given_of cursor.old) }
+{
     if cursor.number()? != VERSION {
         return Err(Unread::Malformed);
     }
     let cluster = cursor.number()?;
     let node = cursor.number()?;
-    let Servers { ids, addresses } = read_servers(alloc, cursor)?;
-    let membership = read_membership(alloc, cursor)?;
-    let settings = read_engine(cursor, node)?;
+    let (given, addresses) = read_given(alloc, cursor)?;
     let config = read_config(cursor)?;
     let connections = read_connections(cursor)?;
     let clients = cursor.size()?;
     cursor.end()?;
     Ok(Settings {
         id: LogId { cluster, node },
-        given: Given {
-            ids: sorted_ids(alloc, ids)?,
-            membership,
-            settings,
-        },
+        given,
         config,
         connections,
         addresses,
@@ -213,7 +244,11 @@ fn read_all(alloc: Global, cursor: &mut Cursor<'_>) -> Result<Settings, Unread> 
 ///    transaction
 /// 9. 1 and the secret that clients must say (bytes), or 0; what INFO answers (bytes)
 /// 10. the most clients
-pub fn read_settings(alloc: Global, bytes: &[u8]) -> Result<Settings, HostError> {
+///
+/// What the servers have in common, their [`Given`], is the same whatever the version, the cluster and the server's id are.
+pub fn read_settings(alloc: Global, bytes: &[u8]) -> Result<Settings, HostError>
+    ensures { IfOk result (λ settings. settings.given ≡ given_of bytes.now) }
+{
     let mut cursor = Cursor::new(alloc, bytes);
     match read_all(alloc, &mut cursor) {
         Ok(settings) => Ok(settings),
