@@ -2,7 +2,7 @@
 
 use crate::batch::Arrivals;
 use crate::disk::Position;
-use crate::node::Request;
+use crate::node::{Job, Request};
 use crate::Error;
 use std::io;
 use std::ops::ControlFlow;
@@ -48,10 +48,19 @@ impl Mail {
     }
 }
 
+/// What comes next.
+#[derive(Default)]
+pub(crate) struct Next {
+    /// How long more is waited for.
+    pub patience: Duration,
+    /// A write that the caller does, who then hands in what came of it.
+    pub job: Option<Job>,
+}
+
 /// What handles a node's mail, on one thread at a time.
 pub(crate) trait Handler: Send {
-    /// Handles all of it, and says how long it waits for more; or that the node has ended, and why.
-    fn handle(&mut self, mail: &mut Mail) -> ControlFlow<Result<(), Error>, Duration>;
+    /// Handles all of it, and says what comes next; or that the node has ended, and why. A write is asked for of who `may_write` alone.
+    fn handle(&mut self, mail: &mut Mail, may_write: bool) -> ControlFlow<Result<(), Error>, Next>;
 
     /// Does a little that can wait, and says whether more is left; or that the node has ended, and why.
     fn idle(&mut self) -> ControlFlow<Result<(), Error>, bool>;
@@ -118,31 +127,51 @@ impl Inbox {
     }
 
     /// As [`Inbox::post`]; but if little waits and the node is idle, it handles that on this thread, which is sooner done than waking its
-    /// own. So this may take as long as a write to the disk, and what comes of it is delivered meanwhile.
+    /// own. What comes of it is delivered meanwhile.
     pub fn serve(&self, arrivals: &mut Arrivals) -> usize {
-        if arrivals.is_empty() {
-            return self.post(arrivals);
-        }
-        let waiting = self.put(arrivals);
-        if waiting <= LITTLE && self.try_handle() {
-            return 0;
-        }
-        self.0.is_there.notify_one();
-        waiting
+        self.serve_by(arrivals, false).0
     }
 
-    /// Handles what waits, unless another thread is at it.
-    fn try_handle(&self) -> bool {
-        let Ok(mut work) = self.0.work.try_lock() else {
-            return false;
-        };
-        let Some(work) = &mut *work else { return false };
-        if self.handle(work).is_zero() {
+    /// As [`Inbox::serve`], but that a small write is left to the caller, who does it holding nothing that others wait for, and hands in what
+    /// came of it ([`Inbox::serve_flush`], or [`Inbox::flushed`]): that is sooner done, too.
+    pub(crate) fn serve_until_write(&self, arrivals: &mut Arrivals) -> (usize, Option<Job>) {
+        self.serve_by(arrivals, true)
+    }
+
+    fn serve_by(&self, arrivals: &mut Arrivals, may_write: bool) -> (usize, Option<Job>) {
+        if arrivals.is_empty() {
+            return (self.post(arrivals), None);
+        }
+        let waiting = self.put(arrivals);
+        if waiting <= LITTLE {
+            if let Some(job) = self.try_handle(may_write) {
+                return (0, job);
+            }
+        }
+        self.0.is_there.notify_one();
+        (waiting, None)
+    }
+
+    /// Hands in what came of a write, and handles it on this thread unless another one is at work; up to the next write.
+    pub(crate) fn serve_flush(&self, flush: Flush) -> Option<Job> {
+        self.state().mail.flush = Some(flush);
+        let handled = self.try_handle(true);
+        if handled.is_none() {
+            self.0.is_there.notify_one();
+        }
+        handled.flatten()
+    }
+
+    /// Handles what waits, up to a write, unless another thread is at it.
+    fn try_handle(&self, may_write: bool) -> Option<Option<Job>> {
+        let mut work = self.0.work.try_lock().ok()?;
+        let Next { patience, job } = self.handle(work.as_mut()?, may_write);
+        if patience.is_zero() {
             // the node's own thread goes on, or ends
             self.state().is_due = true;
             self.0.is_there.notify_one();
         }
-        true
+        Some(job)
     }
 
     /// Lets the node do a little that can wait, on this thread, unless it has something else to do; and says whether more is left.
@@ -227,7 +256,7 @@ impl Inbox {
             }
             drop(state);
             if let Some(work) = &mut *self.work() {
-                patience = self.handle(work);
+                patience = self.handle(work, false).patience;
             }
         }
     }
@@ -236,21 +265,21 @@ impl Inbox {
         self.0.work.lock().unwrap_or_else(PoisonError::into_inner)
     }
 
-    /// Handles all that waits, and says how long more is waited for.
-    fn handle(&self, Work { handler, mail }: &mut Work) -> Duration {
+    /// Handles all that waits, and says what comes next.
+    fn handle(&self, Work { handler, mail }: &mut Work, may_write: bool) -> Next {
         let mut state = self.state();
         if state.has_ended {
-            return Duration::ZERO;
+            return Next::default();
         }
         std::mem::swap(&mut state.mail, mail);
         drop(state);
-        match handler.handle(mail) {
-            ControlFlow::Continue(patience) => patience,
+        match handler.handle(mail, may_write) {
+            ControlFlow::Continue(next) => next,
             ControlFlow::Break(end) => {
                 self.end(end);
                 // whoever waits for an answer is told so before the handler goes, which may wait for them
                 *mail = Mail::default();
-                Duration::ZERO
+                Next::default()
             }
         }
     }
@@ -272,17 +301,22 @@ mod tests {
         leave: Receiver<()>,
     }
 
+    fn later() -> Next {
+        let (patience, job) = (LONG, None);
+        Next { patience, job }
+    }
+
     impl Handler for Scribe {
-        fn handle(&mut self, mail: &mut Mail) -> ControlFlow<Result<(), Error>, Duration> {
+        fn handle(&mut self, mail: &mut Mail, _may_write: bool) -> ControlFlow<Result<(), Error>, Next> {
             if mail.arrivals.is_empty() {
-                return ControlFlow::Continue(LONG);
+                return ControlFlow::Continue(later());
             }
             self.handled
                 .send((thread::current().id(), mail.arrivals.byte_count()))
                 .unwrap();
             mail.arrivals.clear();
             match self.leave.recv() {
-                Ok(()) => ControlFlow::Continue(LONG),
+                Ok(()) => ControlFlow::Continue(later()),
                 Err(_) => ControlFlow::Break(Err(Error::Ended)),
             }
         }
@@ -296,9 +330,9 @@ mod tests {
     struct Idler(usize);
 
     impl Handler for Idler {
-        fn handle(&mut self, mail: &mut Mail) -> ControlFlow<Result<(), Error>, Duration> {
+        fn handle(&mut self, mail: &mut Mail, _may_write: bool) -> ControlFlow<Result<(), Error>, Next> {
             mail.arrivals.clear();
-            ControlFlow::Continue(LONG)
+            ControlFlow::Continue(later())
         }
 
         fn idle(&mut self) -> ControlFlow<Result<(), Error>, bool> {
@@ -321,7 +355,7 @@ mod tests {
         inbox.post(&mut bytes(1));
         // (the node has that to do)
         assert!(!inbox.idle());
-        assert!(inbox.try_handle());
+        assert!(inbox.try_handle(false).is_some());
         assert!(inbox.idle());
         assert!(!inbox.idle());
         // a node that fails at it has ended

@@ -29,6 +29,7 @@ mod inbox;
 mod metrics;
 mod network;
 mod node;
+mod repeats;
 #[cfg(test)]
 mod scratch;
 mod service;

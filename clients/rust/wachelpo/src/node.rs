@@ -2,8 +2,9 @@
 
 use crate::batch::{Arrival, Deliveries, Delivery};
 use crate::disk::Position;
-use crate::inbox::{Flush, Handler, Inbox, Mail, Written};
+use crate::inbox::{Flush, Handler, Inbox, Mail, Next, Written};
 use crate::metrics::Metrics;
+use crate::repeats::Repeats;
 use crate::service::{Input, Output, Refusal, Service, MOMENT};
 use crate::settings::{Builder, Limits};
 use crate::status::{Members, Role, Status};
@@ -18,12 +19,14 @@ use std::time::{Duration, Instant};
 
 /// How often a node looks at the clock.
 const TICK: Duration = Duration::from_millis(10);
-/// Below how many bytes for the log the thread that runs it flushes them itself.
+/// Below how many bytes for the log a thread that serves flushes them itself.
 const CALM: usize = 4 << 10;
 /// How many bytes of a client are handed in at a time, so that no client holds up the others for long.
 const PIECE: usize = 64 << 10;
 /// A buffer above this size is given back once its bytes are on disk.
 const KEPT: usize = 4 << 20;
+/// How many election timeouts a disk is waited for before others may elect one that has a faster one.
+const PATIENT: u32 = 10;
 /// How often its status is noted for metrics.
 const NOTED: Duration = Duration::from_millis(500);
 /// Of how many parts of a new log the log itself waits that they are on disk.
@@ -67,6 +70,7 @@ pub struct Node {
     inbox: Inbox,
     metrics: Arc<Metrics>,
     heartbeat: Duration,
+    election_timeout: Duration,
     is_new: bool,
 }
 
@@ -111,6 +115,7 @@ impl Node {
             inbox: Inbox::default(),
             metrics: Arc::new(metrics),
             heartbeat: settings.heartbeat,
+            election_timeout: settings.election_timeout,
             is_new: end == 0,
         })
     }
@@ -142,8 +147,8 @@ impl Node {
     pub fn start<N: Network + 'static>(self, network: N) -> Result<Running, Error> {
         let handle = self.handle();
         let (writes, to_write) = channel();
-        let disk = Arc::new(Mutex::new(self.disk));
-        let (inbox, shared) = (self.inbox.clone(), disk.clone());
+        let disk = Arc::new(Mutex::new(Some(self.disk)));
+        let (inbox, shared, last) = (self.inbox.clone(), disk.clone(), disk.clone());
         let log = thread::Builder::new()
             .name("log".into())
             .spawn(move || write_all(&shared, &to_write, &inbox))
@@ -168,6 +173,8 @@ impl Node {
                 metrics,
                 random,
                 is_flushing: false,
+                began: Duration::ZERO,
+                repeats: Repeats::new(self.heartbeat, self.election_timeout * PATIENT),
                 spare: Vec::new(),
                 rests: BTreeMap::new(),
                 has_more: false,
@@ -181,7 +188,12 @@ impl Node {
             .name("node".into())
             .spawn(runs)
             .map_err(Error::Io)?;
-        Ok(Running { handle, thread, log })
+        Ok(Running {
+            handle,
+            thread,
+            log,
+            disk: last,
+        })
     }
 }
 
@@ -190,6 +202,7 @@ pub struct Running {
     handle: Handle,
     thread: JoinHandle<Result<(), Error>>,
     log: JoinHandle<()>,
+    disk: Arc<SharedDisk>,
 }
 
 impl Running {
@@ -203,6 +216,7 @@ impl Running {
         let end = self.thread.join().map_err(|_| Error::Ended)?;
         // what it may still write stands in the way of a node that is started on the same log
         let _ = self.log.join();
+        *lock(&self.disk) = None;
         end
     }
 
@@ -267,24 +281,47 @@ struct Write {
     end: u64,
 }
 
-type SharedDisk = Mutex<Box<dyn Disk>>;
+/// A node's disk, until that has ended.
+type SharedDisk = Mutex<Option<Box<dyn Disk>>>;
 
-fn lock(disk: &SharedDisk) -> MutexGuard<'_, Box<dyn Disk>> {
+/// A change of the log, to be made by whoever has it.
+pub(crate) struct Job {
+    disk: Arc<SharedDisk>,
+    write: Write,
+}
+
+impl Job {
+    /// Makes it: this takes as long as the disk does.
+    pub fn write(self) -> Flush {
+        write(&self.disk, self.write)
+    }
+}
+
+fn lock(disk: &SharedDisk) -> MutexGuard<'_, Option<Box<dyn Disk>>> {
     disk.lock().unwrap_or_else(PoisonError::into_inner)
+}
+
+fn change(disk: &mut dyn Disk, change: &Change) -> io::Result<u64> {
+    match change {
+        Change::Append(bytes) => disk.append(bytes)?,
+        Change::TakeOver => disk.take_over()?,
+    }
+    Ok(disk.generation())
 }
 
 fn write(disk: &SharedDisk, Write { change, end }: Write) -> Flush {
     let began = Instant::now();
-    let mut disk = lock(disk);
-    let (result, bytes) = match change {
-        Change::Append(bytes) => (disk.append(&bytes), bytes),
-        Change::TakeOver => (disk.take_over(), Vec::new()),
+    let result = match &mut *lock(disk) {
+        Some(disk) => self::change(&mut **disk, &change),
+        None => Err(io::Error::other("the node has ended")),
     };
-    let generation = disk.generation();
     Flush {
-        result: result.map(|()| Position { generation, end }),
+        result: result.map(|generation| Position { generation, end }),
         took: began.elapsed(),
-        bytes,
+        bytes: match change {
+            Change::Append(bytes) => bytes,
+            Change::TakeOver => Vec::new(),
+        },
     }
 }
 
@@ -415,8 +452,11 @@ struct Runner<N> {
     begun: u64,
     metrics: Arc<Metrics>,
     random: u64,
-    /// Whether bytes are on their way to the disk.
+    /// Whether bytes are on their way to the disk, and since when.
     is_flushing: bool,
+    began: Duration,
+    /// What is repeated while a disk is slow.
+    repeats: Repeats,
     /// A buffer for the next ones.
     spare: Vec<u8>,
     /// Bytes of clients that weren't handed in yet, or that weren't taken.
@@ -431,7 +471,7 @@ struct Runner<N> {
 
 impl<N: Network> Runner<N> {
     /// Handles all that has come, then lets the service write, then delivers; and says whether that was all.
-    fn take_turn(&mut self, mail: &mut Mail) -> Result<ControlFlow<()>, Error> {
+    fn take_turn(&mut self, mail: &mut Mail, may_write: bool) -> Result<ControlFlow<(), Option<Job>>, Error> {
         if let Some(why) = mail.end.take() {
             return Err(why);
         }
@@ -452,7 +492,7 @@ impl<N: Network> Runner<N> {
         }
         mail.arrivals.clear();
         self.hand_in_rests()?;
-        self.write()?;
+        let job = self.write(may_write)?;
         self.fetch_piece()?;
         self.hurry()?;
         for request in mail.requests.drain(..) {
@@ -463,7 +503,7 @@ impl<N: Network> Runner<N> {
         }
         self.deliver();
         self.note()?;
-        Ok(ControlFlow::Continue(()))
+        Ok(ControlFlow::Continue(job))
     }
 
     /// How long it waits for what comes.
@@ -475,35 +515,36 @@ impl<N: Network> Runner<N> {
         }
     }
 
-    /// Lets the service write, unless bytes are on their way already. A few bytes this thread flushes itself, since that is sooner done
-    /// than said to another one; else what comes meanwhile is handled. A new log that has nearly all is waited for.
-    fn write(&mut self) -> Result<(), Error> {
-        while !self.is_flushing {
-            if self.beside.as_ref().is_some_and(Beside::is_near) && !self.take_over()? {
-                return self.let_out();
-            }
-            self.let_out()?;
-            let Some(next) = self.next_write()? else {
-                return self.let_out();
-            };
-            if self.may_flush(&next) {
-                let flush = write(&self.disk, next);
-                self.flushed(flush)?;
-            } else {
-                self.is_flushing = true;
-                // (if its thread has ended, it has said why)
-                let _ = self.writes.send(next);
-            }
+    /// Lets the service write, unless bytes are on their way already. A few bytes a thread that serves flushes itself, since that is sooner
+    /// done than said to another one; else what comes meanwhile is handled. A new log that has nearly all is waited for.
+    fn write(&mut self, may_write: bool) -> Result<Option<Job>, Error> {
+        if self.is_flushing {
+            return Ok(None);
         }
-        Ok(())
+        if self.beside.as_ref().is_some_and(Beside::is_near) && !self.take_over()? {
+            self.let_out()?;
+            return Ok(None);
+        }
+        self.let_out()?;
+        let Some(write) = self.next_write()? else {
+            self.let_out()?;
+            return Ok(None);
+        };
+        self.is_flushing = true;
+        self.began = self.clock.elapsed();
+        if may_write && self.is_soon_done(&write) {
+            let disk = self.disk.clone();
+            return Ok(Some(Job { disk, write }));
+        }
+        // (if its thread has ended, it has said why)
+        let _ = self.writes.send(write);
+        Ok(None)
     }
 
-    /// Whether this thread flushes these bytes itself: they are few, and nothing waits for it meanwhile. What was said does: a thread that
-    /// serves sends it only once it is back.
-    fn may_flush(&self, next: &Write) -> bool {
-        let has_said = self.deliveries.iter().any(|(it, _)| !matches!(it, Delivery::Taken(..)));
+    /// Whether these bytes are few, and nothing waits meanwhile.
+    fn is_soon_done(&self, next: &Write) -> bool {
         let is_little = matches!(&next.change, Change::Append(bytes) if bytes.len() < CALM);
-        is_little && !has_said && self.inbox.is_empty()
+        is_little && self.inbox.is_empty()
     }
 
     /// What is to be done to the log next. If it is long, a new one is begun beside it.
@@ -520,7 +561,11 @@ impl<N: Network> Runner<N> {
         self.begun += 1;
         let (number, inbox) = (self.begun, self.inbox.clone());
         let (parts, to_write) = channel();
-        let begun = lock(&self.disk).begin(end).and_then(|log| {
+        let begun = match &mut *lock(&self.disk) {
+            Some(disk) => disk.begin(end),
+            None => Err(io::Error::other("the node has ended")),
+        };
+        let begun = begun.and_then(|log| {
             let work = move || write_beside(log, number, &to_write, &inbox);
             thread::Builder::new().name("new log".into()).spawn(work)
         });
@@ -568,8 +613,14 @@ impl<N: Network> Runner<N> {
     fn give_up(&mut self, error: &io::Error) -> Result<(), Error> {
         log::error!("log: no new one can be written, so it grows: {error}");
         self.beside = None;
-        lock(&self.disk).give_up();
+        self.give_up_disks();
         self.call(Input::GiveUpLog)
+    }
+
+    fn give_up_disks(&self) {
+        if let Some(disk) = &mut *lock(&self.disk) {
+            disk.give_up();
+        }
     }
 
     /// Lets the new log take the old one's place, if all of it is on disk; says whether the log may be written.
@@ -580,7 +631,7 @@ impl<N: Network> Runner<N> {
         self.beside = None;
         self.call(Input::TakeOver)?;
         if self.next.is_none() {
-            lock(&self.disk).give_up();
+            self.give_up_disks();
             self.call(Input::GiveUpLog)?;
         }
         Ok(true)
@@ -663,7 +714,7 @@ impl<N: Network> Runner<N> {
         self.call(Input::Flushed(position.end))
     }
 
-    /// Tells the service how much time went by. After a break of this thread, as of a process that was stopped, that is a heartbeat's time
+    /// Tells the service how much time went by: none while a write takes long, for which what it does by the time would only wait. After a break of this thread, as of a process that was stopped, that is a heartbeat's time
     /// at most: what came meanwhile was only heard now, so a leader would find that nobody is heard any more, and refuse requests.
     fn tick(&mut self) -> Result<(), Error> {
         let now = self.clock.elapsed();
@@ -674,15 +725,19 @@ impl<N: Network> Runner<N> {
             return Ok(());
         }
         self.time_of_day = self.clock.time_of_day();
-        self.pass(passed)
+        if self.is_flushing && self.repeats.stand_for(now, self.began) {
+            self.repeats.repeat(now, self.began, &mut self.deliveries);
+            return self.pass(passed, Duration::ZERO);
+        }
+        self.pass(passed, passed.min(self.longest))
     }
 
-    /// Tells the service that time went by, in whole moments: the rest counts next time.
-    fn pass(&mut self, passed: Duration) -> Result<(), Error> {
+    /// Tells the service that so much of the time that went by counts, in whole moments: the rest counts next time.
+    fn pass(&mut self, passed: Duration, counted: Duration) -> Result<(), Error> {
         self.ticked += passed - Duration::from_nanos((passed.as_nanos() % MOMENT.as_nanos()) as u64);
         self.random = self.random.wrapping_add(0x9E37_79B9_7F4A_7C15);
         self.call(Input::Tick {
-            elapsed: passed.min(self.longest),
+            elapsed: counted,
             random: mixed(self.random),
             time_of_day: self.time_of_day,
         })
@@ -694,7 +749,8 @@ impl<N: Network> Runner<N> {
         if self.has_come && !self.is_flushing {
             self.has_come = false;
             let passed = self.clock.elapsed().saturating_sub(self.ticked);
-            self.pass(passed.max(MOMENT))?;
+            let passed = passed.max(MOMENT);
+            self.pass(passed, passed.min(self.longest))?;
             self.let_out()?;
         }
         Ok(())
@@ -765,7 +821,10 @@ impl<N: Network> Runner<N> {
         };
         for output in outputs {
             match output {
-                Output::Frame { to, bytes } => self.deliveries.push(Delivery::Frame(to), bytes),
+                Output::Frame { to, bytes } => {
+                    self.repeats.said(to, bytes);
+                    self.deliveries.push(Delivery::Frame(to), bytes);
+                }
                 Output::Client { client, bytes } => self.deliveries.push(Delivery::Bytes(client), bytes),
                 Output::Close(client) => self.deliveries.push(Delivery::Close(client), &[]),
                 Output::Taken(count) => came.taken = count,
@@ -815,9 +874,12 @@ impl<N: Network> Runner<N> {
 }
 
 impl<N: Network> Handler for Runner<N> {
-    fn handle(&mut self, mail: &mut Mail) -> ControlFlow<Result<(), Error>, Duration> {
-        match self.take_turn(mail) {
-            Ok(ControlFlow::Continue(())) => ControlFlow::Continue(self.patience()),
+    fn handle(&mut self, mail: &mut Mail, may_write: bool) -> ControlFlow<Result<(), Error>, Next> {
+        match self.take_turn(mail, may_write) {
+            Ok(ControlFlow::Continue(job)) => {
+                let patience = self.patience();
+                ControlFlow::Continue(Next { patience, job })
+            }
             Ok(ControlFlow::Break(())) => ControlFlow::Break(Ok(())),
             Err(error) => ControlFlow::Break(Err(error)),
         }

@@ -59,12 +59,22 @@ fn start(id: u64, disk: &MemoryDisk, wires: &Wires) -> Member {
 }
 
 fn start_at<C: Clock + 'static>(id: u64, disk: &MemoryDisk, wires: &Wires, clock: C, timeout: Duration) -> Member {
+    start_on(id, disk.clone(), wires, clock, timeout)
+}
+
+fn start_on<D: Disk + 'static, C: Clock + 'static>(
+    id: u64,
+    disk: D,
+    wires: &Wires,
+    clock: C,
+    timeout: Duration,
+) -> Member {
     let id = NodeId(id);
     let mut builder = Node::builder(id).election_timeout(timeout).heartbeat(timeout / 5);
     for other in 1..=3 {
         builder = builder.member(NodeId(other), format!("node{other}:6379"));
     }
-    let node = builder.open_at(disk.clone(), clock).unwrap();
+    let node = builder.open_at(disk, clock).unwrap();
     let inbox = node.inbox();
     wires.0.lock().unwrap().insert(id, inbox.clone());
     let (clients, answers) = channel();
@@ -706,6 +716,84 @@ impl Disk for Slow {
 
     fn generation(&self) -> u64 {
         self.disk.generation()
+    }
+}
+
+/// A disk of which each write takes so many milliseconds.
+#[derive(Clone, Default)]
+struct Sleepy {
+    disk: MemoryDisk,
+    delay: Arc<AtomicU64>,
+}
+
+impl Disk for Sleepy {
+    fn read(&mut self) -> io::Result<Vec<u8>> {
+        self.disk.read()
+    }
+
+    fn cut(&mut self, end: u64) -> io::Result<()> {
+        self.disk.cut(end)
+    }
+
+    fn append(&mut self, bytes: &[u8]) -> io::Result<()> {
+        thread::sleep(Duration::from_millis(self.delay.load(Ordering::Relaxed)));
+        self.disk.append(bytes)
+    }
+
+    fn begin(&mut self, count: u64) -> io::Result<Box<dyn NewLog>> {
+        self.disk.begin(count)
+    }
+
+    fn take_over(&mut self) -> io::Result<()> {
+        self.disk.take_over()
+    }
+
+    fn give_up(&mut self) {
+        self.disk.give_up();
+    }
+
+    fn generation(&self) -> u64 {
+        self.disk.generation()
+    }
+}
+
+#[test]
+fn disks_slower_than_the_election_timeout_delay_writes_alone() {
+    let (wires, delay) = (Wires::default(), Arc::<AtomicU64>::default());
+    let timeout = Duration::from_millis(600);
+    let start = |id| {
+        let disk = Sleepy {
+            delay: delay.clone(),
+            ..Sleepy::default()
+        };
+        Some(start_on(id, disk, &wires, SystemClock::new(), timeout))
+    };
+    let mut members: Vec<Option<Member>> = (1..=3).map(start).collect();
+    members[0].as_ref().unwrap().running.handle().initialize().unwrap();
+    let place = leader(&members);
+    let term = |members: &[Option<Member>]| {
+        let status = members[place].as_ref().unwrap().running.handle().status().unwrap();
+        assert_eq!(status.role, Role::Leader);
+        status.term
+    };
+    let leader = members[place].as_mut().unwrap();
+    assert_eq!(leader.ask("SET a 0\r\n"), "+OK\r\n");
+    let before = term(&members);
+    delay.store(900, Ordering::Relaxed);
+    for count in 1..=3 {
+        let leader = members[place].as_mut().unwrap();
+        let begun = Instant::now();
+        assert_eq!(leader.ask("INCR n\r\n"), format!(":{count}\r\n"));
+        assert!(begun.elapsed() >= Duration::from_millis(1800), "it waits for two disks");
+        // what the node knows is told meanwhile
+        assert_eq!(term(&members), before);
+    }
+    delay.store(0, Ordering::Relaxed);
+    let leader = members[place].as_mut().unwrap();
+    assert_eq!(leader.ask("INCR n\r\n"), ":4\r\n");
+    assert_eq!(term(&members), before);
+    for member in members.into_iter().flatten() {
+        member.running.stop().unwrap();
     }
 }
 

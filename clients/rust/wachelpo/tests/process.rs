@@ -940,6 +940,93 @@ fn silent_connections_neither_end_servers_nor_part_them() {
     fs::remove_file(program).unwrap();
 }
 
+/// Each sync of a file waits for as many milliseconds as a file says.
+const SLOW: &str = r#"
+#define _GNU_SOURCE
+#include <dlfcn.h>
+#include <stdio.h>
+#include <stdlib.h>
+#include <unistd.h>
+static int wait_and_call(const char *name, int fd) {
+    int milliseconds = 0;
+    FILE *file = fopen(getenv("SLOW"), "r");
+    if (file) {
+        if (fscanf(file, "%d", &milliseconds) != 1) milliseconds = 0;
+        fclose(file);
+    }
+    usleep(milliseconds * 1000);
+    return ((int (*)(int))dlsym(RTLD_NEXT, name))(fd);
+}
+int fdatasync(int fd) { return wait_and_call("fdatasync", fd); }
+int fsync(int fd) { return wait_and_call("fsync", fd); }
+"#;
+
+/// A program that runs servers whose disks are slow, and the file that says how slow. None if there is no compiler.
+fn with_slow_disks() -> Option<(PathBuf, PathBuf)> {
+    let (path, delay) = (
+        folder("slow").with_extension("sh"),
+        folder("slow").with_extension("delay"),
+    );
+    let (source, library) = (path.with_extension("c"), path.with_extension("so"));
+    fs::write(&source, SLOW).unwrap();
+    fs::write(&delay, "0").unwrap();
+    let mut compiler = Command::new("cc");
+    let compiled = compiler
+        .args(["-shared", "-fPIC", "-o"])
+        .arg(&library)
+        .arg(&source)
+        .status();
+    if !compiled.is_ok_and(|status| status.success()) {
+        return None;
+    }
+    let (delay_name, library) = (delay.display(), library.display());
+    let script = format!("#!/bin/sh\nSLOW='{delay_name}' LD_PRELOAD='{library}' exec '{PROGRAM}' \"$@\"\n");
+    fs::write(&path, script).unwrap();
+    fs::set_permissions(&path, fs::Permissions::from_mode(0o755)).unwrap();
+    Some((path, delay))
+}
+
+#[test]
+fn disks_slower_than_the_election_timeout_change_no_term() {
+    let Some((program, delay)) = with_slow_disks() else {
+        eprintln!("not tried, since there is no compiler");
+        return;
+    };
+    let cluster = begin_by(&program, "slow", 3);
+    let id = leader(&cluster);
+    let term = |cluster: &Cluster| wait_for("a status", || status_of(cluster, id, "term"));
+    let before = term(&cluster);
+    // (the election timeout is a second)
+    fs::write(&delay, "1500").unwrap();
+    let mut connection = Connection::open(cluster.address(id), LONG).unwrap();
+    let (mut answered, mut asked) = (0, 0);
+    while answered < 4 {
+        asked += 1;
+        assert!(asked < 20, "{answered} of {asked}");
+        match connection.ask(&[vec!["INCR", "n"]]).unwrap().remove(0) {
+            Reply::Number(_) => answered += 1,
+            // (four syncs one behind the other may take longer than a request waits, which is 5 s)
+            Reply::Error(text) => assert!(text.starts_with("UNBLOCKED"), "{text}"),
+            reply => panic!("{reply:?}"),
+        }
+        // administrators are answered meanwhile
+        assert_eq!(term(&cluster), before);
+    }
+    fs::write(&delay, "0").unwrap();
+    set(&cluster, "a", "1");
+    assert_eq!((leader(&cluster), term(&cluster)), (id, before));
+    let changes = |id| {
+        fs::read_to_string(cluster.errors_of(id))
+            .unwrap()
+            .matches("role=")
+            .count()
+    };
+    assert!((1..=3).map(changes).sum::<usize>() <= 3, "{}", cluster.errors());
+    for extension in ["sh", "c", "so", "delay"] {
+        fs::remove_file(program.with_extension(extension)).unwrap();
+    }
+}
+
 /// Serves on a small file system in memory, once for each line: its size, and a word more for the server.
 const SMALL: &str = r#"
 mount -t tmpfs none "$0" || exit

@@ -19,12 +19,14 @@ pub(super) struct Aside {
     pub used: u64,
     /// Its length is a multiple of this.
     unit: u64,
+    /// For how many bytes room is to be made, before the first ones are appended.
+    wanted: u64,
     /// Whether nothing more is appended to it here.
     is_over: bool,
 }
 
 impl Aside {
-    /// A new file, with room for so many bytes. What stood at its path is gone.
+    /// A new file, for so many bytes: whoever appends the first ones makes room for all of them. What stood at its path is gone.
     pub fn create(path: &Path, count: u64, unit: u64) -> io::Result<Self> {
         let made = OpenOptions::new()
             .read(true)
@@ -32,9 +34,11 @@ impl Aside {
             .create(true)
             .truncate(true)
             .open(path);
-        let aside = Aside::of(path, made?, 0, unit);
-        aside.reserve(count.next_multiple_of(unit))?;
-        Ok(aside)
+        let wanted = count.next_multiple_of(unit);
+        Ok(Aside {
+            wanted,
+            ..Aside::of(path, made?, 0, unit)
+        })
     }
 
     /// A file that has so many zeros.
@@ -46,6 +50,7 @@ impl Aside {
             length,
             used: 0,
             unit,
+            wanted: 0,
             is_over: false,
         }
     }
@@ -64,6 +69,10 @@ impl Aside {
     pub fn append(&mut self, bytes: &[u8]) -> io::Result<()> {
         if self.is_over {
             return Ok(());
+        }
+        let wanted = std::mem::take(&mut self.wanted);
+        if wanted > 0 {
+            self.reserve(wanted)?;
         }
         for chunk in bytes.chunks(CHUNK) {
             self.file.write_all_at(chunk, self.used)?;

@@ -17,6 +17,7 @@ use std::fs::{self, File, OpenOptions};
 use std::io::{self, Read, Seek, SeekFrom};
 use std::os::unix::fs::FileExt;
 use std::path::{Path, PathBuf};
+use std::sync::atomic::{AtomicBool, Ordering};
 use std::sync::{Arc, Mutex, PoisonError};
 
 /// How many bytes a file has, and at least if its log is to be short.
@@ -66,16 +67,26 @@ pub struct Segments {
     before: Option<Removal>,
     /// The new log beside this one.
     next: Option<Arc<Mutex<Aside>>>,
+    /// Whether the disk had no room for the last one.
+    is_full: Arc<AtomicBool>,
     /// How far it is known to have been on disk.
     least: Position,
 }
 
 /// A new log in its file.
-struct NewSegments(Arc<Mutex<Aside>>);
+struct NewSegments {
+    aside: Arc<Mutex<Aside>>,
+    /// Noted if the disk has no room for it.
+    is_full: Arc<AtomicBool>,
+}
 
 impl NewLog for NewSegments {
     fn append(&mut self, bytes: &[u8]) -> io::Result<()> {
-        lock(&self.0).append(bytes)
+        let appended = lock(&self.aside).append(bytes);
+        if appended.as_ref().is_err_and(is_full) {
+            self.is_full.store(true, Ordering::SeqCst);
+        }
+        appended
     }
 }
 
@@ -148,6 +159,7 @@ impl Segments {
             ahead: None,
             before: None,
             next: None,
+            is_full: Arc::default(),
             least: Position::default(),
         }
     }
@@ -427,13 +439,15 @@ impl Disk for Segments {
 
     fn begin(&mut self, count: u64) -> io::Result<Box<dyn NewLog>> {
         self.give_up();
-        let aside = match Aside::create(&self.folder.join(NEXT), count, self.size) {
-            Err(error) if is_full(&error) => self.set_aside(count)?,
-            made => made?,
+        // (the room itself is made by who appends, since that may take long)
+        let aside = match self.is_full.swap(false, Ordering::SeqCst) {
+            true => self.set_aside(count)?,
+            false => Aside::create(&self.folder.join(NEXT), count, self.size)?,
         };
-        let next = Arc::new(Mutex::new(aside));
-        self.next = Some(next.clone());
-        Ok(Box::new(NewSegments(next)))
+        let aside = Arc::new(Mutex::new(aside));
+        self.next = Some(aside.clone());
+        let is_full = self.is_full.clone();
+        Ok(Box::new(NewSegments { aside, is_full }))
     }
 
     fn take_over(&mut self) -> io::Result<()> {

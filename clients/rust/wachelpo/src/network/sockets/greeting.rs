@@ -77,7 +77,8 @@ impl Sockets {
         };
         let Some(from) = said.from else {
             let [there, back] = [Direction::There, Direction::Back].map(|way| self.seal(&asked, way));
-            self.set_role(slot, Role::Admin { there, back });
+            let is_asking = false;
+            self.set_role(slot, Role::Admin { there, back, is_asking });
             self.say_admitted(slot, &asked);
             return Ok(());
         };

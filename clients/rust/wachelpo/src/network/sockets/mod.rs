@@ -1,6 +1,7 @@
-//! The thread that has all sockets: it never waits for one of them.
+//! All sockets, which one thread has at a time: it never waits for one of them.
 
 mod accepting;
+mod duty;
 mod gathering;
 mod greeting;
 mod linking;
@@ -10,11 +11,11 @@ mod writing;
 
 use crate::batch::{Arrival, Arrivals, Deliveries, Delivery};
 use crate::disk::{Folder, Noting, Presence};
-use crate::inbox::Inbox;
+use crate::inbox::{Flush, Inbox};
 use crate::network::frames::{BadFrame, Seal};
 use crate::network::handshake::{Known, Nonce, Refusal, Secret, HELLO};
 use crate::network::tcp::{ConnectionLimits, Outbox};
-use crate::node::Handle;
+use crate::node::{Handle, Job};
 use crate::{ClientId, Error, Metrics, NodeId};
 use gathering::Gathering;
 use mio::event::Event;
@@ -121,6 +122,7 @@ enum Role {
     Admin {
         there: Seal,
         back: Seal,
+        is_asking: bool,
     },
     /// This node has connected, and sends frames.
     Link {
@@ -202,6 +204,13 @@ struct Link {
     told: String,
 }
 
+/// What the node answers to who has asked over a connection, which was made then.
+struct Answer {
+    slot: usize,
+    since: Instant,
+    text: String,
+}
+
 /// What a node's host name was found to be.
 type Found = (NodeId, Option<SocketAddr>);
 
@@ -225,6 +234,14 @@ impl From<BadFrame> for Close {
 
 fn refused(refusal: Refusal) -> Close {
     Close(Some(refusal.to_string()))
+}
+
+/// What comes next.
+enum Turn {
+    GoOn,
+    /// The thread writes to the log: it may take longer than others wait for the sockets.
+    Write(Job),
+    Over,
 }
 
 /// All sockets.
@@ -251,6 +268,7 @@ pub(crate) struct Sockets {
     links: BTreeMap<NodeId, Link>,
     /// What host names were found to be.
     found: Arc<Mutex<Vec<Found>>>,
+    answers: Arc<Mutex<Vec<Answer>>>,
     waker: Arc<Waker>,
     /// What other nodes sent, and what clients did, until the node has it.
     frames: Arrivals,
@@ -265,6 +283,8 @@ pub(crate) struct Sockets {
     ready: Vec<usize>,
     dirty: Vec<usize>,
     chunk: Vec<u8>,
+    events: Events,
+    deliveries: Deliveries,
     looked: Instant,
     /// When something happened last.
     happened: Instant,
@@ -351,6 +371,7 @@ impl Sockets {
             strangers: 0,
             links: peers.into_iter().map(|(id, address)| (id, link(address))).collect(),
             found: Arc::default(),
+            answers: Arc::default(),
             waker: waker.clone(),
             frames: Arrivals::new(),
             arrivals: Arrivals::new(),
@@ -361,6 +382,8 @@ impl Sockets {
             ready: Vec::new(),
             dirty: Vec::new(),
             chunk: vec![0; CHUNK],
+            events: Events::with_capacity(1024),
+            deliveries: Deliveries::new(),
             looked: now,
             happened: now,
         };
@@ -368,50 +391,63 @@ impl Sockets {
     }
 
     /// Moves bytes, until the network ends.
-    pub fn run(mut self) {
-        let mut events = Events::with_capacity(1024);
-        let mut deliveries = Deliveries::new();
-        loop {
-            let has_ready = !self.ready.is_empty() && !self.is_congested;
-            let is_behind = has_ready || !self.arrivals.is_empty() || !self.dirty.is_empty();
-            let stays_awake = !is_behind && !self.is_congested && self.stays_awake();
-            let patience = match (is_behind, self.is_congested) {
-                (true, _) => Duration::ZERO,
-                (false, true) => Duration::from_millis(1),
-                (false, false) if self.may_idle || stays_awake => Duration::ZERO,
-                (false, false) => LOOK,
-            };
-            if let Err(error) = self.poll.poll(&mut events, Some(patience)) {
-                if error.kind() != ErrorKind::Interrupted {
-                    log::error!("sockets: {error}");
-                    thread::sleep(PAUSE);
-                }
-                continue;
+    pub fn run(self) {
+        let inbox = self.setup.inbox.clone();
+        duty::run(self, inbox);
+    }
+
+    /// Waits for what happens, and moves bytes once.
+    fn turn(&mut self) -> Turn {
+        let has_ready = !self.ready.is_empty() && !self.is_congested;
+        let is_behind = has_ready || !self.arrivals.is_empty() || !self.dirty.is_empty();
+        let stays_awake = !is_behind && !self.is_congested && self.stays_awake();
+        let patience = match (is_behind, self.is_congested) {
+            (true, _) => Duration::ZERO,
+            (false, true) => Duration::from_millis(1),
+            (false, false) if self.may_idle || stays_awake => Duration::ZERO,
+            (false, false) => LOOK,
+        };
+        if let Err(error) = self.poll.poll(&mut self.events, Some(patience)) {
+            if error.kind() != ErrorKind::Interrupted {
+                log::error!("sockets: {error}");
+                thread::sleep(PAUSE);
             }
-            if !events.is_empty() {
-                self.happened = Instant::now();
-            } else if stays_awake && !self.may_idle {
-                continue;
-            }
-            // also while clients are waited for that were just answered
-            if events.is_empty() && !has_ready && self.dirty.is_empty() && self.may_idle {
-                self.may_idle = self.setup.inbox.idle();
-            }
-            self.outbox().is_awake = true;
-            for event in &events {
-                self.happens(event);
-            }
-            self.notes_are_written();
-            self.read_ready();
-            self.serve(&mut deliveries);
-            if self.is_over {
-                return;
-            }
-            if self.looked.elapsed() >= LOOK {
-                self.looked = Instant::now();
-                self.look();
-            }
+            return Turn::GoOn;
         }
+        if !self.events.is_empty() {
+            self.happened = Instant::now();
+        } else if stays_awake && !self.may_idle {
+            return Turn::GoOn;
+        }
+        // also while clients are waited for that were just answered
+        if self.events.is_empty() && !has_ready && self.dirty.is_empty() && self.may_idle {
+            self.may_idle = self.setup.inbox.idle();
+        }
+        self.outbox().is_awake = true;
+        let events = std::mem::replace(&mut self.events, Events::with_capacity(0));
+        for event in &events {
+            self.happens(event);
+        }
+        self.events = events;
+        self.notes_are_written();
+        self.tell_answers();
+        self.read_ready();
+        let job = self.serve();
+        if self.is_over {
+            return Turn::Over;
+        }
+        if self.looked.elapsed() >= LOOK {
+            self.looked = Instant::now();
+            self.look();
+        }
+        job.map_or(Turn::GoOn, Turn::Write)
+    }
+
+    /// Hands in what came of a write, and sends what the node says to that; up to the next write.
+    fn flushed(&mut self, flush: Flush) -> Option<Job> {
+        let job = self.setup.inbox.serve_flush(flush);
+        self.deliver_all(job.is_some());
+        job
     }
 
     /// Whether it looks for more before it waits.
@@ -425,36 +461,42 @@ impl Sockets {
 
     /// Gives the node what was read, and sends what it says to that. What other nodes sent goes first: the answers that come of it leave
     /// before what clients have asked meanwhile, which this thread may write to the disk, and which may wait for what others ask.
-    fn serve(&mut self, deliveries: &mut Deliveries) {
+    fn serve(&mut self) -> Option<Job> {
         if !self.arrivals.is_empty() {
-            self.hand_in();
-            self.deliver_all(deliveries, true);
+            let job = self.hand_in();
+            self.deliver_all(true);
+            if job.is_some() {
+                return job;
+            }
             let (count, bytes) = (self.arrivals.len(), self.arrivals.byte_count());
             if self.gathering.waits(count, bytes, Instant::now()) {
-                return;
+                return None;
             }
             self.gathering.end();
         }
         self.frames.append(&mut self.arrivals);
         self.may_idle |= !self.frames.is_empty();
-        let waiting = self.hand_in();
-        self.is_congested = waiting > CONGESTED;
-        self.deliver_all(deliveries, false);
+        let job = self.hand_in();
+        self.deliver_all(job.is_some());
+        job
     }
 
-    /// Hands in what waits in `frames`, and says how many bytes wait for the node. This thread runs the node only if it has nothing else to do.
-    fn hand_in(&mut self) -> usize {
-        if self.dirty.is_empty() && self.ready.is_empty() {
-            self.setup.inbox.serve(&mut self.frames)
+    /// Hands in what waits in `frames`. This thread runs the node only if it has nothing else to do, up to a write.
+    fn hand_in(&mut self) -> Option<Job> {
+        let (waiting, job) = if self.dirty.is_empty() && self.ready.is_empty() {
+            self.setup.inbox.serve_until_write(&mut self.frames)
         } else {
-            self.setup.inbox.post(&mut self.frames)
-        }
+            (self.setup.inbox.post(&mut self.frames), None)
+        };
+        self.is_congested = waiting > CONGESTED;
+        job
     }
 
     /// Sends what the node has said, and tells it whether this thread will look for more before it waits.
-    fn deliver_all(&mut self, deliveries: &mut Deliveries, is_awake: bool) {
+    fn deliver_all(&mut self, is_awake: bool) {
+        let mut deliveries = std::mem::take(&mut self.deliveries);
         let mut outbox = self.outbox();
-        std::mem::swap(&mut outbox.deliveries, deliveries);
+        std::mem::swap(&mut outbox.deliveries, &mut deliveries);
         outbox.is_awake = is_awake;
         let is_over = outbox.is_over;
         drop(outbox);
@@ -465,6 +507,7 @@ impl Sockets {
             self.deliver(delivery, bytes);
         }
         deliveries.clear();
+        self.deliveries = deliveries;
         self.write_dirty(WRITTEN);
         if answered > 0 {
             self.gathering.answered(answered, Instant::now());

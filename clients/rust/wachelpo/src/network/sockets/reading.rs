@@ -1,11 +1,14 @@
 //! What comes over connections.
 
-use super::{Client, Close, Knock, Role, Socket, Sockets, Step, SHARE};
+use super::{Answer, Client, Close, Knock, Role, Socket, Sockets, Step, SHARE};
 use crate::batch::Arrival;
 use crate::disk::Position;
 use crate::network::handshake::{CHALLENGE, HELLO, PROOF, VERDICT};
 use crate::network::{admin, page};
+use crate::NodeId;
 use std::io::{ErrorKind, Read};
+use std::sync::PoisonError;
+use std::thread;
 use std::time::Instant;
 
 /// What a browser says first if a page of a stranger's wants it to: what follows would be commands, each in its line. (Redis closes such
@@ -129,18 +132,17 @@ impl Sockets {
                 }
                 Ok(false)
             }
-            Role::Admin { there, back } => {
+            Role::Admin { is_asking: true, .. } => Ok(false),
+            Role::Admin { there, is_asking, .. } => {
                 let Some((request, rest)) = there.read(&socket.input, SHARE)? else {
                     return Ok(false);
                 };
-                let is_known = |id| id == self.setup.id || self.links.contains_key(&id);
-                let answer = admin::answer(&String::from_utf8_lossy(request), &self.setup.handle, is_known);
-                let left = rest.len();
-                let mut framed = Vec::new();
-                back.write(answer.as_bytes(), &mut framed);
+                *is_asking = true;
+                let (question, left) = (String::from_utf8_lossy(request).into_owned(), rest.len());
                 socket.input.drain(..socket.input.len() - left);
-                self.say(slot, &framed, false);
-                Ok(true)
+                let since = socket.since;
+                self.ask_node(slot, since, question)?;
+                Ok(false)
             }
             Role::Stranger(Knock::Noted(_)) => Ok(false),
             Role::Stranger(Knock::Silent) => {
@@ -178,6 +180,44 @@ impl Sockets {
                     }
                 }
                 Ok(true)
+            }
+        }
+    }
+}
+
+impl Sockets {
+    /// Asks the node on a thread of its own, since that may take long.
+    fn ask_node(&self, slot: usize, since: Instant, question: String) -> Result<(), Close> {
+        let known: Vec<NodeId> = self.links.keys().copied().chain([self.setup.id]).collect();
+        let (handle, answers, waker) = (self.setup.handle.clone(), self.answers.clone(), self.waker.clone());
+        let ask = move || {
+            let text = admin::answer(&question, &handle, |id| known.contains(&id));
+            let answer = Answer { slot, since, text };
+            answers.lock().unwrap_or_else(PoisonError::into_inner).push(answer);
+            let _ = waker.wake();
+        };
+        thread::Builder::new().name("admin".into()).spawn(ask)?;
+        Ok(())
+    }
+
+    /// Sends what the node has answered to administrators.
+    pub(super) fn tell_answers(&mut self) {
+        let answers = std::mem::take(&mut *self.answers.lock().unwrap_or_else(PoisonError::into_inner));
+        for Answer { slot, since, text } in answers {
+            let Some(Socket {
+                role: Role::Admin { back, is_asking, .. },
+                since: made,
+                ..
+            }) = &mut self.slots[slot]
+            else {
+                continue;
+            };
+            if *made == since {
+                *is_asking = false;
+                let mut framed = Vec::new();
+                back.write(text.as_bytes(), &mut framed);
+                self.say(slot, &framed, false);
+                self.make_ready(slot);
             }
         }
     }
