@@ -20,21 +20,32 @@ struct Server {
     metrics: Arc<Metrics>,
     running: Option<Running>,
     folder: PathBuf,
+    password: Option<&'static str>,
 }
 
 impl Server {
     fn start(name: &str, set: impl FnOnce(&mut ConnectionLimits)) -> Self {
+        Server::start_with(name, None, set)
+    }
+
+    fn start_with(name: &str, password: Option<&'static str>, set: impl FnOnce(&mut ConnectionLimits)) -> Self {
         let folder = std::env::temp_dir().join(format!("wachelpo-answers-{}-{name}", std::process::id()));
         let _ = fs::remove_dir_all(&folder);
         let id = NodeId(1);
         let address = TcpListener::bind("127.0.0.1:0").unwrap().local_addr().unwrap();
         Folder::create(&folder, id, "answers").unwrap();
         let held = Folder::open(&folder, id, "answers").unwrap();
-        let node = Node::builder(id).member(id, address.to_string());
+        let mut node = Node::builder(id).member(id, address.to_string());
+        if let Some(password) = password {
+            node = node.password(password);
+        }
         let node = node.open(MemoryDisk::new()).unwrap();
         let mut limits = ConnectionLimits::default();
         set(&mut limits);
-        let tcp = Tcp::builder(id, "answers").listen(address).limits(limits);
+        let mut tcp = Tcp::builder(id, "answers").listen(address).limits(limits);
+        if password.is_some() {
+            tcp = tcp.clients_have_a_password();
+        }
         let tcp = tcp.start(held, &node).unwrap();
         let metrics = node.metrics();
         let running = node.start(tcp).unwrap();
@@ -44,12 +55,25 @@ impl Server {
             metrics,
             running: Some(running),
             folder,
+            password,
         };
         server.set_large();
         server
     }
 
     fn connect(&self) -> TcpStream {
+        let mut stream = self.connect_unknown();
+        if let Some(password) = self.password {
+            stream.write_all(format!("AUTH {password}\r\n").as_bytes()).unwrap();
+            let mut answer = [0; 5];
+            stream.read_exact(&mut answer).unwrap();
+            assert_eq!(&answer, b"+OK\r\n");
+        }
+        stream
+    }
+
+    /// A client that hasn't said the password.
+    fn connect_unknown(&self) -> TcpStream {
         let stream = TcpStream::connect(self.address).unwrap();
         stream.set_read_timeout(Some(LONG)).unwrap();
         stream.set_write_timeout(Some(LONG)).unwrap();
@@ -152,6 +176,59 @@ fn all_who_read_nothing_share_a_limit() {
     server.serves();
     drop(idle);
     server.wait_for("nothing waits", |it| it.number("wachelpo_client_waiting_bytes") == 0);
+}
+
+#[test]
+fn who_says_no_password_is_closed_and_keeps_nobody_out() {
+    let server = Server::start_with("unknown", Some("secret"), |limits| {
+        (limits.clients, limits.unknown_clients) = (20, 8);
+        limits.unknown = Duration::from_secs(2);
+    });
+    let known = server.connect();
+    let mut silent: Vec<TcpStream> = (0..50).map(|_| server.connect_unknown()).collect();
+    server.wait_for("the oldest make room", |it| it.number("wachelpo_connections") == 9);
+    assert_eq!(silent[0].read(&mut [0]).unwrap_or(0), 0);
+    // a refusal isn't the password, and nor is what all may say
+    for stream in &mut silent[45..] {
+        stream.write_all(b"GET large\r\nRESET\r\n").unwrap();
+    }
+    server.serves();
+    server.wait_for("the others are late", |it| it.number("wachelpo_connections") == 1);
+    drop(known);
+    // who is known may be silent, and if all are known one more is told that there are too many
+    let known: Vec<TcpStream> = (0..20).map(|_| server.connect()).collect();
+    let mut more = server.connect_unknown();
+    let mut text = String::new();
+    let _ = more.read_to_string(&mut text);
+    assert_eq!(text, "-ERR max number of clients reached\r\n");
+    thread::sleep(Duration::from_secs(3));
+    server.wait_for("they stay", |it| {
+        it.number("wachelpo_connections") == known.len() as u64
+    });
+}
+
+#[test]
+fn little_is_read_of_who_has_not_said_the_password() {
+    let server = Server::start_with("little", Some("secret"), |limits| {
+        limits.unknown = Duration::from_secs(2)
+    });
+    let before = server.number("wachelpo_client_received_bytes_total");
+    let mut stream = server.connect_unknown();
+    let head = format!("*2\r\n$3\r\nGET\r\n${}\r\n", 1 << 20);
+    stream.write_all(head.as_bytes()).unwrap();
+    // (the system holds some of it, and the rest isn't taken)
+    let _ = stream.write_all(&vec![b'x'; 1 << 20]);
+    assert!(read_all(stream) < 200);
+    let read = server.number("wachelpo_client_received_bytes_total") - before;
+    assert!(read <= 16 << 10, "{read}");
+    // what is sent together with it is read once it is known
+    let mut stream = server.connect_unknown();
+    stream
+        .write_all(("AUTH secret\r\n".to_string() + &"PING\r\n".repeat(10_000)).as_bytes())
+        .unwrap();
+    let mut answers = vec![0; 5 + 7 * 10_000];
+    stream.read_exact(&mut answers).unwrap();
+    assert!(answers.starts_with(b"+OK\r\n+PONG\r\n") && answers.ends_with(b"+PONG\r\n"));
 }
 
 #[test]

@@ -28,6 +28,12 @@ pub struct ConnectionLimits {
     pub clients: usize,
     /// How long a client may be silent; for ever by default.
     pub idle: Option<Duration>,
+    /// The most clients that haven't said the password yet, if there is one: then the oldest one of them makes room.
+    pub unknown_clients: usize,
+    /// How long a client may take to say it.
+    pub unknown: Duration,
+    /// How many of its bytes are read until then.
+    pub unknown_bytes: usize,
     /// The most bytes of a client that were read, and wait for the node: then its socket isn't read.
     pub unread_bytes: usize,
     /// The most bytes for a client that wait: then its connection is closed.
@@ -45,9 +51,12 @@ impl Default for ConnectionLimits {
         ConnectionLimits {
             clients: 10_000,
             idle: None,
+            unknown_clients: 1000,
+            unknown: Duration::from_secs(10),
+            unknown_bytes: 16 << 10,
             unread_bytes: 1 << 20,
             client_bytes: 64 << 20,
-            all_client_bytes: 1 << 30,
+            all_client_bytes: 256 << 20,
             peer_bytes: 64 << 20,
             frame_bytes: 512 << 20,
         }
@@ -138,6 +147,7 @@ impl TcpBuilder {
             is_secret: self.secret.is_some(),
             secret: self.secret.unwrap_or_else(|| Secret::new("")),
             limits: self.limits,
+            has_password: self.has_password,
             inbox: node.inbox(),
             handle: node.handle(),
             metrics: node.metrics(),

@@ -28,6 +28,9 @@ impl Sockets {
     }
 
     fn accepted(&mut self, token: Token, mut stream: TcpStream) {
+        if token == CLIENTS && self.setup.has_password {
+            self.make_room_for_unknown();
+        }
         if token == CLIENTS && self.clients.len() >= self.most_clients {
             self.setup.metrics.connections_refused.add(1);
             // as Redis says it; if it isn't sent, the end says it
@@ -45,6 +48,7 @@ impl Sockets {
                 Role::Client(Client {
                     id: ClientId(self.last_client),
                     is_new: true,
+                    unknown: self.setup.has_password.then_some(0),
                     unread: 0,
                     asked: None,
                     told: Instant::now(),
@@ -64,10 +68,35 @@ impl Sockets {
         match client {
             Some(id) => {
                 self.clients.insert(id, slot);
+                if self.setup.has_password {
+                    self.unknown_clients += 1;
+                    self.came.push_back(id);
+                }
                 self.setup.metrics.connections.set(self.clients.len() as u64);
                 self.arrivals.push(Arrival::Connected(id), &[]);
             }
             None => self.strangers += 1,
+        }
+    }
+
+    /// The client that hasn't said the password for longest makes room, if so many haven't, or if there is none, so that silent ones keep nobody
+    /// out.
+    fn make_room_for_unknown(&mut self) {
+        let most = self.setup.limits.unknown_clients;
+        while self.unknown_clients >= most || self.unknown_clients > 0 && self.clients.len() >= self.most_clients {
+            let Some(id) = self.came.pop_front() else { return };
+            let slot = self.clients.get(&id).copied();
+            let socket = slot.and_then(|slot| self.slots[slot].as_ref());
+            let is_unknown = |it: &Socket| matches!(&it.role, Role::Client(client) if client.unknown.is_some());
+            if let Some(slot) = slot.filter(|_| socket.is_some_and(is_unknown)) {
+                self.setup.metrics.connections_refused.add(1);
+                self.close(slot, None);
+            }
+        }
+        // (most have said it soon, and needn't be remembered)
+        if self.came.len() > 2 * self.most_clients {
+            let clients = &self.clients;
+            self.came.retain(|id| clients.contains_key(id));
         }
     }
 

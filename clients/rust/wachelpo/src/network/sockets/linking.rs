@@ -170,6 +170,7 @@ mod tests {
             is_secret: false,
             secret: Secret::new(""),
             limits: ConnectionLimits::default(),
+            has_password: false,
             inbox: node.inbox(),
             handle: node.handle(),
             metrics: node.metrics(),

@@ -22,7 +22,7 @@ use mio::event::Event;
 use mio::net::{TcpListener, TcpStream};
 use mio::{Events, Interest, Poll, Token, Waker};
 use noting::Desk;
-use std::collections::{BTreeMap, HashMap};
+use std::collections::{BTreeMap, HashMap, VecDeque};
 use std::io::{self, ErrorKind};
 use std::net::SocketAddr;
 use std::sync::{Arc, Mutex, MutexGuard, PoisonError};
@@ -81,6 +81,7 @@ pub(crate) struct Setup {
     pub is_secret: bool,
     pub secret: Secret,
     pub limits: ConnectionLimits,
+    pub has_password: bool,
     pub inbox: Inbox,
     pub handle: Handle,
     pub metrics: Arc<Metrics>,
@@ -143,6 +144,8 @@ struct Client {
     id: ClientId,
     /// Whether nothing has come of it yet.
     is_new: bool,
+    /// None once it is known to have said the password, if there is one; until then how many bytes have come of it.
+    unknown: Option<usize>,
     /// How many bytes wait for the node.
     unread: usize,
     /// When its bytes came that aren't answered yet.
@@ -259,6 +262,9 @@ pub(crate) struct Sockets {
     slots: Vec<Option<Socket>>,
     free: Vec<usize>,
     clients: HashMap<ClientId, usize>,
+    /// The clients that came when there was a password to be said, in their order, and how many of them haven't said it.
+    came: VecDeque<ClientId>,
+    unknown_clients: usize,
     last_client: u64,
     most_clients: usize,
     /// How many bytes for all clients wait.
@@ -364,6 +370,8 @@ impl Sockets {
             slots: Vec::new(),
             free: Vec::new(),
             clients: HashMap::new(),
+            came: VecDeque::new(),
+            unknown_clients: 0,
             last_client: 0,
             most_clients,
             unwritten: 0,
@@ -581,6 +589,7 @@ impl Sockets {
         match socket.role {
             Role::Client(client) => {
                 self.count_unwritten(waiting, 0);
+                self.unknown_clients -= usize::from(client.unknown.is_some());
                 self.clients.remove(&client.id);
                 self.setup.metrics.connections.set(self.clients.len() as u64);
                 self.arrivals.push(Arrival::Disconnected(client.id), &[]);
@@ -618,11 +627,14 @@ impl Sockets {
         }
         self.connect_again(now);
         self.note_positions(now);
-        let idle = self.setup.limits.idle;
+        let (idle, unknown) = (self.setup.limits.idle, self.setup.limits.unknown);
         let is_late = |socket: &Socket| {
             let is_late = |since: Instant| now.saturating_duration_since(since) > PATIENCE;
             match &socket.role {
-                Role::Client(_) => idle.is_some_and(|idle| now.saturating_duration_since(socket.heard) > idle),
+                Role::Client(client) => {
+                    let is_silent = idle.is_some_and(|idle| now.saturating_duration_since(socket.heard) > idle);
+                    is_silent || client.unknown.is_some() && now.saturating_duration_since(socket.since) > unknown
+                }
                 Role::Stranger(_) | Role::Page | Role::Admin { .. } => is_late(socket.since),
                 Role::Link { step, .. } => !matches!(step, Step::Open(_)) && is_late(socket.since),
                 Role::Peer { .. } => false,

@@ -13,7 +13,13 @@ use std::time::Instant;
 
 /// What a browser says first if a page of a stranger's wants it to: what follows would be commands, each in its line. (Redis closes such
 /// connections, too.)
-const POST: &[u8] = b"POST ";
+const METHODS: [&[u8]; 5] = [b"POST ", b"PUT ", b"PATCH ", b"DELETE ", b"OPTIONS "];
+
+/// Whether bytes begin as a request of HTTP's that has a body.
+fn is_http(bytes: &[u8]) -> bool {
+    let begins = |it: &&&[u8]| bytes.len() >= it.len() && bytes[..it.len()].eq_ignore_ascii_case(it);
+    METHODS.iter().find(begins).is_some()
+}
 
 impl Sockets {
     pub(super) fn read_ready(&mut self) {
@@ -43,7 +49,8 @@ impl Sockets {
                 self.make_ready(slot);
                 return Ok(());
             }
-            let count = match socket.stream.read(&mut self.chunk) {
+            let room = socket.room(&self.setup.limits).min(self.chunk.len());
+            let count = match socket.stream.read(&mut self.chunk[..room]) {
                 Ok(0) => return self.ended(slot),
                 Ok(count) => count,
                 Err(error) if error.kind() == ErrorKind::WouldBlock => {
@@ -54,11 +61,11 @@ impl Sockets {
                 Err(error) => return Err(error.into()),
             };
             // less than there is room for is all there is
-            socket.can_read = count == self.chunk.len() || socket.is_ending;
+            socket.can_read = count == room || socket.is_ending;
             socket.heard = self.looked;
             share = share.saturating_sub(count);
             if let Role::Client(client) = &mut socket.role {
-                if std::mem::take(&mut client.is_new) && self.chunk[..count].starts_with(POST) {
+                if std::mem::take(&mut client.is_new) && is_http(&self.chunk[..count]) {
                     let id = client.id;
                     let whose = socket.whose();
                     log::warn!(
@@ -67,6 +74,7 @@ impl Sockets {
                     return Err(Close(None));
                 }
                 client.unread += count;
+                client.unknown = client.unknown.map(|before| before + count);
                 client.asked.get_or_insert_with(Instant::now);
                 self.setup.metrics.client_bytes_received.add(count as u64);
                 self.arrivals.push(Arrival::Received(client.id), &self.chunk[..count]);

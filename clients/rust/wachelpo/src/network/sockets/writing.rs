@@ -1,6 +1,6 @@
 //! What leaves over connections.
 
-use super::{Role, Socket, Sockets, Step, SHARE};
+use super::{Client, Role, Socket, Sockets, Step, SHARE};
 use crate::batch::Delivery;
 use crate::network::tcp::ConnectionLimits;
 use crate::{ClientId, NodeId};
@@ -79,8 +79,15 @@ impl Sockets {
             return;
         };
         let Some(socket) = &mut self.slots[slot] else { return };
+        let mut is_known_now = false;
         if let Role::Client(client) = &mut socket.role {
             client.told = self.looked;
+            // (without the password only this and refusals are answered)
+            if client.unknown.is_some() && !bytes.starts_with(b"-") && !bytes.starts_with(b"+RESET") {
+                client.unknown = None;
+                self.unknown_clients -= 1;
+                is_known_now = true;
+            }
             if let Some(asked) = client.asked.take() {
                 self.setup.metrics.answers.observe(asked.elapsed());
             }
@@ -92,6 +99,9 @@ impl Sockets {
             return;
         }
         self.say(slot, bytes, false);
+        if is_known_now {
+            self.make_ready(slot);
+        }
         self.count_unwritten(waiting, waiting + bytes.len());
         if self.unwritten > self.setup.limits.all_client_bytes {
             // of a batch nothing may be written yet
@@ -179,11 +189,18 @@ impl Socket {
 
     /// Whether it is read: neither too much of it waits for the node, nor too much for it.
     pub(super) fn may_read(&self, limits: &ConnectionLimits) -> bool {
+        let is_behind = matches!(&self.role, Role::Client(client) if client.unread >= limits.unread_bytes
+            || self.waiting() >= limits.unread_bytes);
+        !self.is_closing && !is_behind && self.room(limits) > 0
+    }
+
+    /// How many bytes more of it are read: few as long as it hasn't said a password.
+    pub(super) fn room(&self, limits: &ConnectionLimits) -> usize {
         match &self.role {
-            Role::Client(client) => {
-                !self.is_closing && client.unread < limits.unread_bytes && self.waiting() < limits.unread_bytes
-            }
-            _ => !self.is_closing,
+            Role::Client(Client {
+                unknown: Some(count), ..
+            }) => limits.unknown_bytes.saturating_sub(*count),
+            _ => usize::MAX,
         }
     }
 
