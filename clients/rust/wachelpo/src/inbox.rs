@@ -34,8 +34,8 @@ pub(crate) struct Written {
 pub(crate) struct Mail {
     pub arrivals: Arrivals,
     pub flush: Option<Flush>,
-    /// How many parts of a new log are on disk, and which log that is.
-    pub written: Option<Written>,
+    /// How many parts of new logs are on disk, in the order in which that was said.
+    pub written: Vec<Written>,
     pub requests: Vec<Request>,
     /// Why the node doesn't go on.
     pub end: Option<Error>,
@@ -43,7 +43,7 @@ pub(crate) struct Mail {
 
 impl Mail {
     fn is_empty(&self) -> bool {
-        let has_none = self.flush.is_none() && self.written.is_none() && self.end.is_none();
+        let has_none = self.flush.is_none() && self.written.is_empty() && self.end.is_none();
         self.arrivals.is_empty() && has_none && self.requests.is_empty()
     }
 }
@@ -212,7 +212,7 @@ impl Inbox {
     }
 
     pub(crate) fn written(&self, written: Written) {
-        self.state().mail.written = Some(written);
+        self.state().mail.written.push(written);
         self.0.is_there.notify_one();
     }
 
@@ -367,6 +367,17 @@ mod tests {
         let mut arrivals = Arrivals::new();
         arrivals.push(Arrival::Received(ClientId(1)), &vec![0; count]);
         arrivals
+    }
+
+    #[test]
+    fn a_late_word_of_a_log_that_was_given_up_takes_no_others_place() {
+        let inbox = Inbox::default();
+        for (log, count) in [(2, Err(Error::Ended)), (1, Ok(7))] {
+            let count = count.map_err(|_| io::Error::other("full"));
+            inbox.written(Written { log, count });
+        }
+        let said = &inbox.state().mail.written;
+        assert!(said.len() == 2 && said[0].log == 2 && said[0].count.is_err() && said[1].log == 1);
     }
 
     #[test]

@@ -475,7 +475,7 @@ impl<N: Network> Runner<N> {
         if let Some(why) = mail.end.take() {
             return Err(why);
         }
-        if let Some(written) = mail.written.take() {
+        for written in mail.written.drain(..) {
             self.written(written)?;
         }
         if let Some(flush) = mail.flush.take() {
