@@ -142,6 +142,31 @@ impl Cluster {
         Ok(())
     }
 
+    /// Starts a process on a copy of a node's folder, which listens elsewhere, and reaches these nodes.
+    pub fn start_copy(&self, id: u64, data: &Path, reached: &[u64], errors: &Path) -> io::Result<Child> {
+        let mut command = Command::new(&self.program);
+        command.args(["serve", "--listen", "127.0.0.1:0", "--id", &id.to_string(), "--data"]);
+        command.arg(data);
+        for other in &self.ids {
+            let peers = match reached.contains(other) {
+                true => self.peers_address(*other).to_string(),
+                false => "127.0.0.1:0".into(),
+            };
+            command
+                .arg("--peer")
+                .arg(format!("{other}={peers},{}", self.address(*other)));
+        }
+        self.common(&mut command);
+        let errors = fs::File::create(errors)?;
+        command.stdin(Stdio::null()).stderr(errors).spawn()
+    }
+
+    /// How often a node was admitted by others.
+    pub fn admissions(&self, id: u64) -> usize {
+        let text = fs::read_to_string(self.errors_of(id)).unwrap_or_default();
+        text.matches(": connected to ").count()
+    }
+
     /// Asks the nodes for something, by the program: its words.
     pub fn ask(&self, words: &[&str]) -> Option<String> {
         let mut command = Command::new(&self.program);

@@ -1,4 +1,4 @@
-//! Harms the files of nodes that don't run. A node that is started on them is to tell it, and to end.
+//! Harms the files of nodes that don't run, and starts them on old copies, and twice. A node that is started so is to tell it, and to end.
 
 use crate::cluster::Cluster;
 use crate::random::Random;
@@ -27,6 +27,16 @@ pub enum Harm {
     Emptied,
     /// It is another node's folder.
     Swapped,
+    /// A file of the log is shorter than it was made.
+    Shorter,
+    /// A file of the log is longer.
+    Longer,
+    /// The log has lost its end, from half of what was noted to be on disk.
+    Tail,
+    /// It is an old copy, from before a start of which others have heard.
+    Copy,
+    /// A second process runs on such a copy, beside the first one.
+    Second,
 }
 
 /// What came of a harm.
@@ -40,6 +50,8 @@ pub struct Came {
 }
 
 const LONG: Duration = Duration::from_secs(60);
+/// How long a node's admission may take that isn't held up.
+const SOON: Duration = Duration::from_secs(10);
 const PAGE: usize = 4096;
 
 impl Harm {
@@ -55,7 +67,13 @@ impl Harm {
             Harm::Peers,
             Harm::Emptied,
             Harm::Swapped,
-        ][random.below(10) as usize]
+            Harm::Shorter,
+            Harm::Longer,
+            Harm::Tail,
+            Harm::Copy,
+            Harm::Copy,
+            Harm::Second,
+        ][random.below(16) as usize]
     }
 
     /// Does it to a folder; `other` is that of another node. Whether it could be done.
@@ -97,9 +115,48 @@ impl Harm {
                 fs::remove_dir_all(folder)?;
                 copy(other, folder)?;
             }
+            Harm::Shorter | Harm::Longer => {
+                let place = random.below(log.len().max(1) as u64) as usize;
+                let Some(path) = log.get(place) else { return Ok(false) };
+                let length = fs::metadata(path)?.len();
+                let file = fs::OpenOptions::new().write(true).open(path)?;
+                match self {
+                    Harm::Longer => file.set_len(length + PAGE as u64)?,
+                    _ if length == 0 => return Ok(false),
+                    _ => file.set_len(length - PAGE as u64 * (1 + random.below(length / PAGE as u64)))?,
+                }
+            }
+            Harm::Tail => return lose_end(folder, &log),
+            // (these are another matter)
+            Harm::Copy | Harm::Second => return Ok(false),
         }
         Ok(true)
     }
+}
+
+/// Zeroes a log from half of what was noted to be on disk, if something was noted of it.
+fn lose_end(folder: &Path, log: &[PathBuf]) -> io::Result<bool> {
+    let notes = fs::read_to_string(folder.join("peers")).unwrap_or_default();
+    let noted = notes
+        .lines()
+        .find_map(|line| line.strip_prefix("log ")?.split_once(' '));
+    let noted = noted.and_then(|(generation, end)| Some((generation.parse::<u64>().ok()?, end.parse::<u64>().ok()?)));
+    let newest = log.first().and_then(|path| place(path.file_name()?.to_str()?));
+    let (Some((noted, end)), Some((newest, _))) = (noted, newest) else {
+        return Ok(false);
+    };
+    if noted != newest || end < 8 * PAGE as u64 {
+        return Ok(false);
+    }
+    let mut start = 0;
+    for path in log {
+        let mut bytes = fs::read(path)?;
+        let from = (end / 2).saturating_sub(start).min(bytes.len() as u64);
+        start += bytes.len() as u64;
+        bytes[from as usize..].fill(0);
+        fs::write(path, bytes)?;
+    }
+    Ok(true)
 }
 
 /// How often a log was replaced by the one that a file is of, and which of its files that is.
@@ -157,6 +214,63 @@ fn is_told(cluster: &mut Cluster, id: u64, others: &mut Vec<u64>) -> io::Result<
     Ok(false)
 }
 
+/// Starts a node, and waits until all others that run have admitted it: whether that was so soon, and there are any.
+fn is_admitted(cluster: &mut Cluster, id: u64) -> io::Result<bool> {
+    let others = cluster
+        .ids
+        .iter()
+        .filter(|it| **it != id && cluster.is_running(**it))
+        .count();
+    let before = cluster.admissions(id);
+    cluster.start(id)?;
+    let until = Instant::now() + SOON;
+    while others > 0 && Instant::now() < until {
+        if cluster.admissions(id) >= before + others {
+            return Ok(true);
+        }
+        thread::sleep(Duration::from_millis(20));
+    }
+    Ok(false)
+}
+
+/// Starts a node on a copy from before its last start, in its place or beside it; once the copy has ended by that, all is as before.
+fn run_on_copy(cluster: &mut Cluster, harm: Harm, id: u64, came: &mut Came) -> io::Result<()> {
+    let (folder, old) = (cluster.folder(id), cluster.folder(id).with_extension("old"));
+    let ran = cluster.is_running(id);
+    cluster.kill(id)?;
+    copy(&folder, &old)?;
+    came.is_done = is_admitted(cluster, id)?;
+    if came.is_done && harm == Harm::Copy {
+        let kept = folder.with_extension("kept");
+        cluster.kill(id)?;
+        fs::rename(&folder, &kept)?;
+        fs::rename(&old, &folder)?;
+        // (also at its second start)
+        came.is_told = is_told(cluster, id, &mut came.others)? && is_told(cluster, id, &mut came.others)?;
+        cluster.kill(id)?;
+        fs::remove_dir_all(&folder)?;
+        fs::rename(&kept, &folder)?;
+    } else if came.is_done {
+        let errors = folder.with_extension("second");
+        let mut second = cluster.start_copy(id, &old, &cluster.ids, &errors)?;
+        let until = Instant::now() + LONG;
+        while second.try_wait()?.is_none() && Instant::now() < until {
+            thread::sleep(Duration::from_millis(20));
+        }
+        came.is_told = second.try_wait()?.is_some() && fs::read_to_string(&errors)?.contains("level=error");
+        let _ = second.kill();
+        second.wait()?;
+        // the first one goes on
+        came.others.extend(cluster.ended());
+    }
+    cluster.kill(id)?;
+    let _ = fs::remove_dir_all(&old);
+    if ran {
+        cluster.start(id)?;
+    }
+    Ok(())
+}
+
 /// Kills a node, harms its folder, and starts it; once it has ended by that, it gets its folder back.
 pub fn suffer(cluster: &mut Cluster, harm: Harm, id: u64, random: &mut Random) -> io::Result<Came> {
     let mut came = Came {
@@ -164,6 +278,10 @@ pub fn suffer(cluster: &mut Cluster, harm: Harm, id: u64, random: &mut Random) -
         is_told: false,
         others: Vec::new(),
     };
+    if matches!(harm, Harm::Copy | Harm::Second) && cluster.folder(id).join("identity").exists() {
+        run_on_copy(cluster, harm, id, &mut came)?;
+        return Ok(came);
+    }
     let (folder, kept) = (cluster.folder(id), cluster.folder(id).with_extension("kept"));
     let other = cluster.folder(1 + id % cluster.ids.len() as u64);
     if !folder.join("identity").exists() || !other.join("identity").exists() {

@@ -4,7 +4,7 @@
 //!     torture [SECONDS]     of trouble, half with three voters and half with five; by default 60
 //!
 //! `WACHELPO` names the program; by default `target/release/wachelpo` below the folder of the workspace. `SEED` repeats what is done, `KEEP`
-//! leaves the nodes' folders. Exit status: 0 for no violation, 1 for any, 2 if it can't be said.
+//! leaves the nodes' folders, with `HARMS` half of the troubles are harms of files, and copies. Exit status: 0 for no violation, 1 for any, 2 if it can't be said.
 
 mod client;
 mod cluster;
@@ -125,7 +125,8 @@ fn large(cluster: &Cluster) {
 fn trouble_once(cluster: &mut Cluster, voters: u64, random: &mut Random, done: &mut Trouble) -> io::Result<()> {
     let all = cluster.ids.clone();
     let some = all[random.below(all.len() as u64) as usize];
-    match random.below(22) {
+    let is_harm = std::env::var_os("HARMS").is_some() && random.below(2) == 0;
+    match if is_harm { 19 } else { random.below(22) } {
         0..=7 => {
             let count = if random.below(8) == 0 {
                 all.len() as u64

@@ -542,18 +542,12 @@ fn an_old_copy_of_a_folder_is_kept_out() {
 /// Why a copy is refused.
 const OTHER_START: &str = "its folder lacks the start by which it is known";
 
-/// How often a node was told that it is admitted.
-fn admissions(cluster: &Cluster, id: u64) -> usize {
-    let text = fs::read_to_string(cluster.errors_of(id)).unwrap();
-    text.matches(": connected to ").count()
-}
-
 /// Starts a node, and waits until both others have admitted it.
 fn start_admitted(cluster: &mut Cluster, id: u64) {
-    let before = admissions(cluster, id);
+    let before = cluster.admissions(id);
     cluster.start(id).unwrap();
     wait_for("it is admitted", || {
-        (admissions(cluster, id) >= before + 2).then_some(())
+        (cluster.admissions(id) >= before + 2).then_some(())
     });
 }
 
@@ -635,33 +629,8 @@ fn starts_that_reach_nobody_keep_a_node_from_nobody() {
 
 /// A process on a copy of node 3's folder, which listens elsewhere, and reaches these nodes.
 fn start_copy(cluster: &Cluster, copy: &Path, reached: &[u64]) -> Child {
-    let mut command = Command::new(PROGRAM);
-    command.args([
-        "serve",
-        "--id",
-        "3",
-        "--cluster",
-        "torture",
-        "--listen",
-        "127.0.0.1:0",
-        "--data",
-    ]);
-    command
-        .arg(copy)
-        .arg("--secret")
-        .arg(cluster.folder(1).with_file_name("secret"));
-    for id in [1, 2, 3] {
-        let address = if reached.contains(&id) {
-            cluster.peers_address(id).to_string()
-        } else {
-            "127.0.0.1:0".into()
-        };
-        command
-            .arg("--peer")
-            .arg(format!("{id}={address},{}", cluster.address(id)));
-    }
-    let errors = fs::File::create(copy.with_extension("err")).unwrap();
-    command.stdin(Stdio::null()).stderr(errors).spawn().unwrap()
+    let errors = copy.with_extension("err");
+    cluster.start_copy(3, copy, reached, &errors).unwrap()
 }
 
 fn copys_refusal(mut child: Child, copy: &Path) -> String {
@@ -693,9 +662,9 @@ fn of_two_processes_on_copies_whoever_hears_of_the_other_one_ends() {
     // one reaches node 1 alone, and the other one node 2
     cluster.way(3, 2).set(proxy::State::Cut);
     cluster.way(2, 3).set(proxy::State::Cut);
-    let before = admissions(&cluster, 3);
+    let before = cluster.admissions(3);
     cluster.start(3).unwrap();
-    wait_for("it is admitted", || (admissions(&cluster, 3) > before).then_some(()));
+    wait_for("it is admitted", || (cluster.admissions(3) > before).then_some(()));
     let mut child = start_copy(&cluster, &copy, &[2]);
     wait_for("the other one is admitted", || {
         let text = fs::read_to_string(copy.with_extension("err")).unwrap();
