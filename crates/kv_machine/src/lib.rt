@@ -1,0 +1,16 @@
+//! The keyspace of a replicated store: its state is a list of revisions, as etcd's API describes them, with transactions, leases and
+//! compaction. It reads and writes nothing, and what it does is told by its requests alone.
+#![tactic(auto)]
+
+mod answer;
+mod error;
+mod key_value;
+mod request;
+
+pub use answer::{Answer, DeleteRangeResponse, LeaseStatus, RangeResponse, Response};
+pub use error::StoreError;
+pub use key_value::{Event, KeyValue, Lease, Stored};
+pub use request::{
+    Compare, CompareResult, CompareTarget, DeleteRangeRequest, Operation, PutRequest, RangeRequest,
+    Request, RequestOp, SortOrder, SortTarget, TxnRequest,
+};
