@@ -1,8 +1,6 @@
 -- Why requests are refused before they are run, in etcd's order.
 use Rattle.std.specs.Prelude.{ℕ, ◌+◌, ◌-◌, Bool, false, not, ◌&&◌, ◌||◌, ◌==◌, List, [], ◌∷◌, ◌++◌, length, map, Option, Some, None, nat_lt, nat_le, max, if◌then◌else◌}
 use Rattle.std.specs.List.{list_any, flat_map}
-use Rattle.std.specs.Ordering.{nat_cmp, is_lt}
-use Rattle.std.specs.Cmp.Lexicographic.{slice_cmp}
 use Rattle.std.specs.Option.{option_and_then, is_none}
 use Rattle.std.specs.Str.{bytes_eq}
 use Rattle.kv_machine.specs.declared.error.StoreError.{StoreError}
@@ -14,7 +12,7 @@ use Rattle.kv_machine.specs.declared.request.Compare.{Compare}
 use Rattle.kv_machine.specs.declared.request.TxnRequest.{TxnRequest}
 use Rattle.kv_machine.specs.declared.request.RequestOp.{RequestOp, Range, Put, DeleteRange, Txn', Row_of-RequestOp, end_of-RequestOp, more_of-RequestOp}
 use Rattle.kv_machine.specs.Store.{Key, Store, current}
-use Rattle.kv_machine.specs.Ranges.{is_key_le}
+use Rattle.kv_machine.specs.Ranges.{is_between}
 
 -- the first whose condition holds is the answer
 abbrev pub Refusals : Type 0
@@ -101,8 +99,7 @@ pub record Claims : Type 0 where
 
 -- An end of one zero byte is no end of all keys here, but one before each key (etcd, checkIntervals).
 abbrev pub is_deleted : Key → Key × List ℕ → Bool
-is_deleted k (key, []) = bytes_eq k key
-is_deleted k (key, b ∷ bs) = is_key_le key k && is_lt (slice_cmp nat_cmp k (b ∷ bs))
+is_deleted k range = is_between range.0 range.1 k
 
 abbrev pub is_claimed : Claims → Key → Bool
 is_claimed c k = list_any (bytes_eq k) c.puts || list_any (is_deleted k) c.deleted

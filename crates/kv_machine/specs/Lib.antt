@@ -1,5 +1,9 @@
+pub mod Codes
 pub mod Store
+pub mod History
+pub mod StoreCode
 pub mod Ranges
+pub mod Deletable
 pub mod Writes
 pub mod Checks
 pub mod Txns

@@ -1,5 +1,5 @@
 -- Ranges of keys (etcd's API: RangeRequest, RangeResponse).
-use Rattle.std.specs.Prelude.{ℕ, ◌+◌, Bool, true, false, ◌&&◌, ◌||◌, ◌==◌, List, [], ◌∷◌, length, map, filter, take, nat_le, nat_lt, if◌then◌else◌}
+use Rattle.std.specs.Prelude.{ℕ, ◌+◌, Bool, true, false, not, ◌&&◌, ◌||◌, ◌==◌, List, [], ◌∷◌, length, map, filter, take, nat_le, nat_lt, if◌then◌else◌}
 use Rattle.std.specs.Ordering.{nat_cmp, is_lt, is_le, is_gt}
 use Rattle.std.specs.declared.cmp.Ordering.{Ordering}
 use Rattle.std.specs.Cmp.Lexicographic.{slice_cmp}
@@ -22,10 +22,13 @@ is_key_le a b = is_le (slice_cmp nat_cmp a b)
 abbrev pub is_endless : List ℕ → Bool
 is_endless range_end = bytes_eq range_end (0 ∷ [])
 
--- whether a key is in a range: the first key alone, all keys from it on, or those before the end
+-- whether a key is the first key, or from it on and before the end
+abbrev pub is_between : Key → List ℕ → Key → Bool
+is_between key [] k = bytes_eq k key
+is_between key (b ∷ bs) k = is_key_le key k && not (is_key_le (b ∷ bs) k)
+
 abbrev pub is_within : Key → List ℕ → Key → Bool
-is_within key [] k = bytes_eq k key
-is_within key (b ∷ bs) k = is_key_le key k && (is_endless (b ∷ bs) || is_lt (slice_cmp nat_cmp k (b ∷ bs)))
+is_within key range_end k = if is_endless range_end then is_key_le key k else is_between key range_end k
 
 abbrev pub key_value : Key × Stored → KeyValue
 key_value e = record { key = e.0; stored = e.1 }
@@ -57,21 +60,24 @@ compare_by target.Create a b = nat_cmp a.stored.create_revision b.stored.create_
 compare_by target.Mod a b = nat_cmp a.stored.mod_revision b.stored.mod_revision
 compare_by target.Value a b = slice_cmp nat_cmp a.stored.value b.stored.value
 
--- whether the first is behind the second
-abbrev pub is_behind : SortOrder → SortTarget → KeyValue → KeyValue → Bool
-is_behind order.None t a b = is_gt (compare_by t a b)
-is_behind order.Ascend t a b = is_gt (compare_by t a b)
-is_behind order.Descend t a b = is_lt (compare_by t a b)
+abbrev pub is_descending : SortOrder → Bool
+is_descending order.None = false
+is_descending order.Ascend = false
+is_descending order.Descend = true
 
--- before the first that isn't to be before it
-abbrev pub inserted : (KeyValue → KeyValue → Bool) → KeyValue → List KeyValue → List KeyValue
-inserted behind x [] = x ∷ []
-inserted behind x (y ∷ ys) = if behind x y then y ∷ inserted behind x ys else x ∷ y ∷ ys
+-- whether the first comes before the second
+abbrev pub is_before : SortOrder → SortTarget → KeyValue → KeyValue → Bool
+is_before o t a b = if is_descending o then is_lt (compare_by t b a) else is_lt (compare_by t a b)
 
--- keys that tie stay as they were: ascending
-abbrev pub sorted : (KeyValue → KeyValue → Bool) → List KeyValue → List KeyValue
-sorted behind [] = []
-sorted behind (x ∷ xs) = inserted behind x (sorted behind xs)
+-- before the first that doesn't come before it
+abbrev pub inserted : {X : Type 0} → (X → X → Bool) → X → List X → List X
+inserted before x [] = x ∷ []
+inserted before x (y ∷ ys) = if before y x then y ∷ inserted before x ys else x ∷ y ∷ ys
+
+-- those that tie stay as they were
+abbrev pub sorted : {X : Type 0} → (X → X → Bool) → List X → List X
+sorted before [] = []
+sorted before (x ∷ xs) = inserted before x (sorted before xs)
 
 -- ---- how many
 
@@ -84,8 +90,11 @@ abbrev pub is_unbounded : RangeRequest → Bool
 is_unbounded r = r.min_mod_revision == 0 && r.max_mod_revision == 0 && r.min_create_revision == 0 && r.max_create_revision == 0
 
 -- With no order and no bound etcd takes no more keys than it needs, so it sorts these alone.
+abbrev pub is_cut : RangeRequest → Bool
+is_cut r = is_unordered r.sort_order && is_unbounded r && nat_lt 0 r.limit
+
 abbrev pub taken : RangeRequest → List KeyValue → List KeyValue
-taken r kvs = if is_unordered r.sort_order && is_unbounded r && nat_lt 0 r.limit then take (r.limit + 1) kvs else kvs
+taken r kvs = if is_cut r then take (r.limit + 1) kvs else kvs
 
 abbrev pub limited : ℕ → List KeyValue → List KeyValue
 limited limit kvs = if limit == 0 then kvs else take limit kvs
@@ -100,7 +109,7 @@ shown true kvs = map without_value kvs
 -- ---- the response
 
 abbrev pub chosen : RangeRequest → List KeyValue → List KeyValue
-chosen r kvs = sorted (is_behind r.sort_order r.sort_target) (filter (is_asked r) (taken r kvs))
+chosen r kvs = sorted (is_before r.sort_order r.sort_target) (filter (is_asked r) (taken r kvs))
 
 abbrev pub response : ℕ → RangeRequest → List KeyValue → List KeyValue → RangeResponse
 response revision r all kvs = record {

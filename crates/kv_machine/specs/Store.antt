@@ -37,6 +37,7 @@ pub record Store : Type 0 where
   -- what has happened so far of a revision that isn't complete: nothing between requests
   pub pending : List Event
 
+-- Revision 1 is the store without keys, so the first change is revision 2. (etcd counts -1 as compacted at first, and takes a compaction at 0.)
 abbrev pub empty : Store
 empty = record { base = map.empty; compacted = None; revisions = []; pending = [] }
 

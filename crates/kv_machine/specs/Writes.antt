@@ -19,12 +19,18 @@ put_on None revision value lease = record { create_revision = revision; mod_revi
 put_on (Some old) revision value lease =
     record { create_revision = old.create_revision; mod_revision = revision; version = old.version + 1; lease = lease; value = value }
 
--- what a put stores: what is ignored stays
+-- what is ignored stays
+abbrev pub value_by : Bool → List ℕ → Option Stored → List ℕ
+value_by false value old = value
+value_by true value old = unwrap_or (option_map (λ s. s.value) old) []
+
+abbrev pub lease_by : Bool → ℕ → Option Stored → ℕ
+lease_by false lease old = lease
+lease_by true lease old = unwrap_or (option_map (λ s. s.lease) old) 0
+
+-- what a put stores
 abbrev pub stored_by : PutRequest → ℕ → Option Stored → Stored
-stored_by p revision old =
-    put_on old revision
-    (if p.ignore_value then unwrap_or (option_map (λ s. s.value) old) [] else p.value)
-    (if p.ignore_lease then unwrap_or (option_map (λ s. s.lease) old) 0 else p.lease)
+stored_by p revision old = put_on old revision (value_by p.ignore_value p.value old) (lease_by p.ignore_lease p.lease old)
 
 abbrev pub prev_kv : Bool → Key → Option Stored → Option KeyValue
 prev_kv false k old = None

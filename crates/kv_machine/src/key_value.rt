@@ -1,6 +1,9 @@
 //! Keys with what is stored at them, and events.
 
+ghost use Rattle.std.specs.Prelude.{◌≡◌, IfOk};
+
 use raft_state::Items;
+use std::alloc::AllocError;
 
 /// What is stored at a key: etcd's `KeyValue` without its key.
 #[derive(Debug, Drop)]
@@ -19,6 +22,21 @@ pub struct Stored {
 
     /// The value.
     pub value: Items<u8>,
+}
+
+impl Stored {
+    /// A copy.
+    pub(crate) fn copy(&self) -> Result<Self, AllocError>
+        ensures { IfOk result (λ copied. copied ≡ self.now) }
+    {
+        Ok(Stored {
+            create_revision: self.create_revision,
+            mod_revision: self.mod_revision,
+            version: self.version,
+            lease: self.lease,
+            value: self.value.copy()?,
+        })
+    }
 }
 
 /// A key, and what is stored there.

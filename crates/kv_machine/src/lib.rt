@@ -5,12 +5,21 @@
 mod answer;
 mod error;
 mod key_value;
+mod keyspace;
+mod ranges;
 mod request;
+mod shared;
+mod sorts;
+mod table;
+mod touch;
+mod writes;
 
 pub use answer::{Answer, DeleteRangeResponse, LeaseStatus, RangeResponse, Response};
 pub use error::StoreError;
 pub use key_value::{Event, KeyValue, Lease, Stored};
+pub use keyspace::Keyspace;
 pub use request::{
     Compare, CompareResult, CompareTarget, DeleteRangeRequest, Operation, PutRequest, RangeRequest,
     Request, RequestOp, SortOrder, SortTarget, TxnRequest,
 };
+pub use writes::{delete_range, put};
