@@ -29,7 +29,6 @@ mod inbox;
 mod metrics;
 mod network;
 mod node;
-mod repeats;
 #[cfg(test)]
 mod scratch;
 mod service;
@@ -99,4 +98,11 @@ fn random() -> io::Result<u64> {
     let mut bytes = [0; 8];
     random_bytes(&mut bytes)?;
     Ok(u64::from_le_bytes(bytes))
+}
+
+/// A number of SplitMix64 (Steele, Lea, Flood: Fast splittable pseudorandom number generators, 2014).
+fn mixed(state: u64) -> u64 {
+    let mixed = (state ^ (state >> 30)).wrapping_mul(0xBF58_476D_1CE4_E5B9);
+    let mixed = (mixed ^ (mixed >> 27)).wrapping_mul(0x94D0_49BB_1331_11EB);
+    mixed ^ (mixed >> 31)
 }

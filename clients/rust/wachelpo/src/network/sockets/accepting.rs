@@ -9,6 +9,27 @@ use mio::{Interest, Token};
 use std::io::{self, ErrorKind, Write};
 use std::time::Instant;
 
+/// How many files the process may have open, after it has asked for as many as it may.
+pub(super) fn descriptors() -> usize {
+    let mut limit = libc::rlimit {
+        rlim_cur: 0,
+        rlim_max: 0,
+    };
+    // SAFETY: the pointer is that of a limit.
+    if unsafe { libc::getrlimit(libc::RLIMIT_NOFILE, &mut limit) } != 0 {
+        return 1024;
+    }
+    let most = libc::rlimit {
+        rlim_cur: limit.rlim_max,
+        ..limit
+    };
+    // SAFETY: as above.
+    if unsafe { libc::setrlimit(libc::RLIMIT_NOFILE, &most) } == 0 {
+        limit = most;
+    }
+    usize::try_from(limit.rlim_cur).unwrap_or(usize::MAX)
+}
+
 impl Sockets {
     pub(super) fn accept(&mut self, token: Token) {
         loop {

@@ -1,6 +1,6 @@
 //! Connections to other nodes.
 
-use super::{Close, Role, Socket, Sockets, Step, BACKOFF_MOST, UNACKNOWLEDGED};
+use super::{Close, Link, Role, Socket, Sockets, Step, BACKOFF_MOST, UNACKNOWLEDGED};
 use crate::network::handshake::Hello;
 use crate::NodeId;
 use mio::net::TcpStream;
@@ -41,6 +41,23 @@ pub(super) fn notice_absence(stream: &TcpStream) {
 }
 
 impl Sockets {
+    /// Connects to nodes for which it is time.
+    pub(super) fn connect_again(&mut self, now: Instant) {
+        let due = |link: &Link| link.slot.is_none() && !link.is_sought && now >= link.at;
+        let due: Vec<_> = self
+            .links
+            .iter()
+            .filter(|(_, link)| due(link))
+            .map(|(id, link)| (*id, link.address.clone()))
+            .collect();
+        for (to, address) in due {
+            match address.parse() {
+                Ok(address) => self.connect(to, Some(address)),
+                Err(_) => self.look_up(to, address),
+            }
+        }
+    }
+
     pub(super) fn connect(&mut self, to: NodeId, address: Option<SocketAddr>) {
         if let Some(link) = self.links.get_mut(&to) {
             link.is_sought = false;

@@ -7,21 +7,23 @@ mod greeting;
 mod linking;
 mod noting;
 mod reading;
+mod roles;
 mod writing;
 
 use crate::batch::{Arrival, Arrivals, Deliveries, Delivery};
 use crate::disk::{Folder, Noting, Presence};
 use crate::inbox::{Flush, Inbox};
-use crate::network::frames::{BadFrame, Seal};
-use crate::network::handshake::{Known, Nonce, Refusal, Secret, HELLO};
+use crate::network::handshake::Secret;
 use crate::network::tcp::{ConnectionLimits, Outbox};
 use crate::node::{Handle, Job};
 use crate::{ClientId, Error, Metrics, NodeId};
+use accepting::descriptors;
 use gathering::Gathering;
 use mio::event::Event;
-use mio::net::{TcpListener, TcpStream};
+use mio::net::TcpListener;
 use mio::{Events, Interest, Poll, Token, Waker};
 use noting::Desk;
+use roles::{refused, Answer, Asked, Client, Close, Found, Knock, Link, Role, Socket, Step};
 use std::collections::{BTreeMap, HashMap, VecDeque};
 use std::io::{self, ErrorKind};
 use std::net::SocketAddr;
@@ -88,157 +90,6 @@ pub(crate) struct Setup {
     pub outbox: Arc<Mutex<Outbox>>,
 }
 
-/// One connection.
-struct Socket {
-    stream: TcpStream,
-    role: Role,
-    /// What was read of it, and isn't whole yet.
-    input: Vec<u8>,
-    /// What is to be written, of which so many bytes are.
-    output: Vec<u8>,
-    written: usize,
-    /// Whether it may have something to read, and nothing but what is read comes any more.
-    can_read: bool,
-    is_ending: bool,
-    is_ready: bool,
-    is_dirty: bool,
-    /// Closed once all is written.
-    is_closing: bool,
-    /// When it was made, and when something was last read of it.
-    since: Instant,
-    heard: Instant,
-}
-
-/// Whose connection it is.
-enum Role {
-    Client(Client),
-    /// Somebody has connected, and has not proved yet who it is.
-    Stranger(Knock),
-    /// Another node, which sends frames.
-    Peer {
-        from: NodeId,
-        seal: Seal,
-    },
-    /// Somebody who asks for the status or a change of the members.
-    Admin {
-        there: Seal,
-        back: Seal,
-        is_asking: bool,
-    },
-    /// This node has connected, and sends frames.
-    Link {
-        to: NodeId,
-        step: Step,
-    },
-    Page,
-}
-
-impl Role {
-    /// Whether it is neither a client's nor a known node's.
-    fn is_strangers(&self) -> bool {
-        matches!(self, Role::Stranger(_) | Role::Admin { .. } | Role::Page)
-    }
-}
-
-struct Client {
-    id: ClientId,
-    /// Whether nothing has come of it yet.
-    is_new: bool,
-    /// None once it is known to have said the password, if there is one; until then how many bytes have come of it.
-    unknown: Option<usize>,
-    /// How many bytes wait for the node.
-    unread: usize,
-    /// When its bytes came that aren't answered yet.
-    asked: Option<Instant>,
-    /// When it was answered last.
-    told: Instant,
-    /// When it has said that it sends nothing more, if it has.
-    ended: Option<Instant>,
-}
-
-impl Client {
-    /// Whether nothing more is to be said to who sends nothing more. (Answers to what was asked together come soon one after another; half a
-    /// request has none.)
-    fn is_over(&self, now: Instant) -> bool {
-        let is_past = |since, patience| now.saturating_duration_since(since) >= patience;
-        let is_answered = self.asked.is_none() && is_past(self.told, LAST_ANSWERS);
-        self.ended
-            .is_some_and(|ended| is_answered || is_past(ended, UNANSWERED))
-    }
-}
-
-/// What who connects has said, was asked, and by what it is known.
-#[derive(Clone, Copy)]
-struct Asked {
-    hello: [u8; HELLO],
-    nonce: Nonce,
-    known: Known,
-}
-
-/// How far somebody is who has connected.
-enum Knock {
-    Silent,
-    Asked(Asked),
-    /// It is admitted once that is noted.
-    Noted(Asked),
-}
-
-/// How far a connection to another node is.
-enum Step {
-    Connecting,
-    Hello([u8; HELLO]),
-    /// It is said to have the secret once it is noted that the other node is told of this start.
-    Noting(Asked),
-    Proof(Asked),
-    Open(Seal),
-}
-
-/// Another node.
-struct Link {
-    address: String,
-    slot: Option<usize>,
-    /// Whether a thread looks its host's name up.
-    is_sought: bool,
-    /// When it is connected to again, and how long after the next failure.
-    at: Instant,
-    backoff: Duration,
-    is_up: bool,
-    /// Why it isn't, as it was told.
-    told: String,
-}
-
-/// What the node answers to who has asked over a connection, which was made then.
-struct Answer {
-    slot: usize,
-    since: Instant,
-    text: String,
-}
-
-/// What a node's host name was found to be.
-type Found = (NodeId, Option<SocketAddr>);
-
-/// A connection is to be closed, for a reason that is told if there is one.
-struct Close(Option<String>);
-
-impl From<io::Error> for Close {
-    fn from(_: io::Error) -> Self {
-        Close(None)
-    }
-}
-
-impl From<BadFrame> for Close {
-    fn from(bad: BadFrame) -> Self {
-        Close(Some(match bad {
-            BadFrame::TooLong => "a frame is too long".into(),
-            BadFrame::Sum => "a frame has a wrong sum".into(),
-        }))
-    }
-}
-
-fn refused(refusal: Refusal) -> Close {
-    Close(Some(refusal.to_string()))
-}
-
 /// What comes next.
 enum Turn {
     GoOn,
@@ -294,27 +145,6 @@ pub(crate) struct Sockets {
     looked: Instant,
     /// When something happened last.
     happened: Instant,
-}
-
-/// How many files the process may have open, after it has asked for as many as it may.
-fn descriptors() -> usize {
-    let mut limit = libc::rlimit {
-        rlim_cur: 0,
-        rlim_max: 0,
-    };
-    // SAFETY: the pointer is that of a limit.
-    if unsafe { libc::getrlimit(libc::RLIMIT_NOFILE, &mut limit) } != 0 {
-        return 1024;
-    }
-    let most = libc::rlimit {
-        rlim_cur: limit.rlim_max,
-        ..limit
-    };
-    // SAFETY: as above.
-    if unsafe { libc::setrlimit(libc::RLIMIT_NOFILE, &most) } == 0 {
-        limit = most;
-    }
-    usize::try_from(limit.rlim_cur).unwrap_or(usize::MAX)
 }
 
 impl Sockets {
@@ -654,21 +484,5 @@ impl Sockets {
             .filter(|(_, it)| it.as_ref().is_some_and(&is_meant))
             .map(|(slot, _)| slot)
             .collect()
-    }
-
-    fn connect_again(&mut self, now: Instant) {
-        let due = |link: &Link| link.slot.is_none() && !link.is_sought && now >= link.at;
-        let due: Vec<_> = self
-            .links
-            .iter()
-            .filter(|(_, link)| due(link))
-            .map(|(id, link)| (*id, link.address.clone()))
-            .collect();
-        for (to, address) in due {
-            match address.parse() {
-                Ok(address) => self.connect(to, Some(address)),
-                Err(_) => self.look_up(to, address),
-            }
-        }
     }
 }
