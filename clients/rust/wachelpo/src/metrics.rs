@@ -296,7 +296,14 @@ impl Metrics {
                 "# HELP wachelpo_{name} {help}\n# TYPE wachelpo_{name} gauge\nwachelpo_{name} {value}"
             )?;
         }
-        for (id, why) in self.refused() {
+        let refused = self.refused();
+        if !refused.is_empty() {
+            writeln!(
+                out,
+                "# HELP wachelpo_peer_refused Why a node is refused.\n# TYPE wachelpo_peer_refused gauge"
+            )?;
+        }
+        for (id, why) in refused {
             writeln!(out, "wachelpo_peer_refused{{node=\"{id}\",why={why:?}}} 1")?;
         }
         for (name, help, counter) in self.counters() {
@@ -389,6 +396,20 @@ fn role_number(role: Role) -> u64 {
 #[cfg(test)]
 mod tests {
     use super::*;
+
+    #[test]
+    fn who_is_refused_is_shown_until_it_is_admitted() {
+        let metrics = Metrics::new(NodeId(1));
+        let why = "its log is shorter than it was";
+        metrics.note_peer(NodeId(3), Some(why.into()));
+        let (text, page) = (metrics.to_text(), metrics.to_page());
+        assert!(text.contains("wachelpo_peers_refused 1\n"));
+        assert!(text.contains(&format!("wachelpo_peer_refused{{node=\"3\",why=\"{why}\"}} 1\n")));
+        assert!(page.contains(&format!("<b>Node 3 is refused</b>: {why}")));
+        metrics.note_peer(NodeId(3), None);
+        assert!(metrics.to_text().contains("wachelpo_peers_refused 0\n"));
+        assert!(!metrics.to_text().contains("wachelpo_peer_refused{"));
+    }
 
     #[test]
     fn a_histogram_counts_all_below_each_bound() {

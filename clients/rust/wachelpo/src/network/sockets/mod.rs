@@ -465,8 +465,10 @@ impl Sockets {
                     let is_silent = idle.is_some_and(|idle| now.saturating_duration_since(socket.heard) > idle);
                     is_silent || client.unknown.is_some() && now.saturating_duration_since(socket.since) > unknown
                 }
+                // (it waits for the disk)
+                Role::Stranger(Knock::Noted(_)) => false,
                 Role::Stranger(_) | Role::Page | Role::Admin { .. } => is_late(socket.since),
-                Role::Link { step, .. } => !matches!(step, Step::Open(_)) && is_late(socket.since),
+                Role::Link { step, .. } => !matches!(step, Step::Open(_) | Step::Noting(_)) && is_late(socket.since),
                 Role::Peer { .. } => false,
             }
         };
