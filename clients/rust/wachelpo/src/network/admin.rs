@@ -75,7 +75,7 @@ fn exchange(address: &str, cluster: &str, secret: Option<&Secret>, text: &str) -
     if sums.known(&challenge).is_none() {
         return Err(refused(Refusal::Secret));
     }
-    stream.write_all(&sums.proof(false))?;
+    stream.write_all(&sums.proof(None))?;
     let mut verdict = [0; VERDICT];
     stream.read_exact(&mut verdict)?;
     if let Some(refusal) = Refusal::of_byte(verdict[0]) {

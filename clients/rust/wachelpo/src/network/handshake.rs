@@ -15,7 +15,7 @@
 //! Without a secret it is the same with an empty one, and frames have no sums: then nothing is proved, and a server listens
 //! on loopback addresses alone.
 
-use crate::disk::{Heard, Position, Presence, POSITION};
+use crate::disk::{Heard, Lack, Position, Presence, Start, POSITION};
 use crate::NodeId;
 use hmac::{Hmac, Mac};
 use sha2::{Digest, Sha256};
@@ -27,8 +27,8 @@ pub(crate) type Nonce = [u8; 32];
 const MAGIC: &[u8; 8] = b"wachelpo";
 const VERSION: u64 = 3;
 /// How many bytes a hello has, a challenge, a proof and a verdict.
-pub(crate) const HELLO: usize = 112;
-pub(crate) const CHALLENGE: usize = 88;
+pub(crate) const HELLO: usize = 120;
+pub(crate) const CHALLENGE: usize = 96;
 pub(crate) const PROOF: usize = 33;
 pub(crate) const VERDICT: usize = 33;
 
@@ -77,7 +77,7 @@ pub(crate) struct Hello {
 impl Hello {
     pub fn to_bytes(self) -> [u8; HELLO] {
         let mut bytes = [0; HELLO];
-        let Presence { folder, run } = self.presence;
+        let Presence { folder, starts, run } = self.presence;
         let from = self.from.map_or(0, |id| id.0);
         let words = [
             VERSION,
@@ -86,23 +86,24 @@ impl Hello {
             from,
             self.to.0,
             folder,
+            starts,
             run,
             self.log.generation,
             self.log.end,
         ];
         bytes[..8].copy_from_slice(MAGIC);
-        for (place, word) in bytes[8..80].chunks_exact_mut(8).zip(words) {
+        for (place, word) in bytes[8..88].chunks_exact_mut(8).zip(words) {
             place.copy_from_slice(&word.to_le_bytes());
         }
-        bytes[80..].copy_from_slice(&self.nonce);
+        bytes[88..].copy_from_slice(&self.nonce);
         bytes
     }
 
     pub fn of_bytes(bytes: &[u8; HELLO]) -> Option<Self> {
-        let mut words = bytes[8..80]
+        let mut words = bytes[8..88]
             .chunks_exact(8)
             .map(|word| u64::from_le_bytes(word.try_into().expect("it has 8")));
-        let mut word = || words.next().expect("there are 9");
+        let mut word = || words.next().expect("there are 10");
         if &bytes[..8] != MAGIC || word() != VERSION {
             return None;
         }
@@ -117,27 +118,29 @@ impl Hello {
             to: NodeId(word()),
             presence: Presence {
                 folder: word(),
+                starts: word(),
                 run: word(),
             },
             log: Position {
                 generation: word(),
                 end: word(),
             },
-            nonce: bytes[80..].try_into().expect("it has 32"),
+            nonce: bytes[88..].try_into().expect("it has 32"),
         })
     }
 }
 
-/// What who accepts knows of who connects: its last start (0 for none), and how far its log was heard to be on disk.
+/// What who accepts knows of who connects: its last start, and how far its log was heard to be on disk.
 #[derive(Clone, Copy, PartialEq, Eq, Default, Debug)]
 pub(crate) struct Known {
-    pub run: u64,
+    pub start: Start,
     pub log: Position,
 }
 
 impl From<Heard> for Known {
     fn from(Heard { presence, log }: Heard) -> Self {
-        Known { run: presence.run, log }
+        let start = presence.start();
+        Known { start, log }
     }
 }
 
@@ -212,37 +215,52 @@ impl Sums<'_> {
     pub fn challenge(&self, known: Known) -> [u8; CHALLENGE] {
         let mut bytes = [0; CHALLENGE];
         bytes[..32].copy_from_slice(self.nonce);
-        bytes[32..40].copy_from_slice(&known.run.to_le_bytes());
-        bytes[40..56].copy_from_slice(&known.log.to_bytes());
-        let sum = self.mac("accepts").chain_update(&bytes[32..56]).finalize();
-        bytes[56..].copy_from_slice(&sum.into_bytes());
+        bytes[32..40].copy_from_slice(&known.start.number.to_le_bytes());
+        bytes[40..48].copy_from_slice(&known.start.run.to_le_bytes());
+        bytes[48..64].copy_from_slice(&known.log.to_bytes());
+        let sum = self.mac("accepts").chain_update(&bytes[32..64]).finalize();
+        bytes[64..].copy_from_slice(&sum.into_bytes());
         bytes
     }
 
     /// What is known, if who accepts has the secret. (Sums are compared in constant time.)
     pub fn known(&self, challenge: &[u8; CHALLENGE]) -> Option<Known> {
-        let (known, sum) = challenge[32..].split_at(8 + POSITION);
+        let (known, sum) = challenge[32..].split_at(16 + POSITION);
         self.mac("accepts").chain_update(known).verify_slice(sum).ok()?;
-        let (run, log) = known.split_first_chunk()?;
+        let (number, rest) = known.split_first_chunk()?;
+        let (run, log) = rest.split_first_chunk()?;
         Some(Known {
-            run: u64::from_le_bytes(*run),
+            start: Start {
+                number: u64::from_le_bytes(*number),
+                run: u64::from_le_bytes(*run),
+            },
             log: Position::of_bytes(log.first_chunk()?),
         })
     }
 
-    /// Says whether the folder of who connects has the start that is known.
-    pub fn proof(&self, has_run: bool) -> [u8; PROOF] {
+    /// Says whether the folder of who connects has the start that is known, and else why not.
+    pub fn proof(&self, lack: Option<Lack>) -> [u8; PROOF] {
         let mut bytes = [0; PROOF];
-        bytes[0] = has_run.into();
+        bytes[0] = match lack {
+            None => 0,
+            Some(Lack::Own) => 1,
+            Some(Lack::Others) => 2,
+        };
         let sum = self.mac("connects").chain_update(&bytes[..1]).finalize();
         bytes[1..].copy_from_slice(&sum.into_bytes());
         bytes
     }
 
-    /// Whether who connects has said that, and has the secret.
-    pub fn is_proof(&self, proof: &[u8; PROOF]) -> bool {
+    /// What who connects has said, if it has the secret.
+    pub fn lack(&self, proof: &[u8; PROOF]) -> Option<Option<Lack>> {
         let (said, sum) = proof.split_at(1);
-        self.mac("connects").chain_update(said).verify_slice(sum).is_ok()
+        self.mac("connects").chain_update(said).verify_slice(sum).ok()?;
+        match said {
+            [0] => Some(None),
+            [1] => Some(Some(Lack::Own)),
+            [2] => Some(Some(Lack::Others)),
+            _ => None,
+        }
     }
 
     /// What is said of a node: none is refused.
@@ -287,7 +305,11 @@ mod tests {
             cluster: 77,
             from: Some(NodeId(1)),
             to: NodeId(2),
-            presence: Presence { folder: 3, run: 5 },
+            presence: Presence {
+                folder: 3,
+                starts: 4,
+                run: 5,
+            },
             log: Position { generation: 8, end: 9 },
             nonce: [6; 32],
         }
@@ -316,7 +338,7 @@ mod tests {
             nonce: &[9; 32],
         };
         let known = Known {
-            run: 7,
+            start: Start { number: 6, run: 7 },
             log: Position { generation: 1, end: 2 },
         };
         let challenge = sums(&secret).challenge(known);
@@ -325,13 +347,19 @@ mod tests {
         let mut changed = challenge;
         changed[33] ^= 1;
         assert_eq!(sums(&secret).known(&changed), None);
-        let proof = sums(&secret).proof(true);
-        assert!(sums(&secret).is_proof(&proof) && !sums(&other).is_proof(&proof));
-        assert_eq!(proof[0], 1);
-        assert!(!sums(&secret).is_proof(&[&[0], &proof[1..]].concat().try_into().unwrap()));
+        for lack in [None, Some(Lack::Own), Some(Lack::Others)] {
+            let proof = sums(&secret).proof(lack);
+            assert_eq!(
+                (sums(&secret).lack(&proof), sums(&other).lack(&proof)),
+                (Some(lack), None)
+            );
+            let mut changed = proof;
+            changed[0] ^= 1;
+            assert_eq!(sums(&secret).lack(&changed), None);
+        }
         // what one side has said is no proof of the other
-        let back = [&[1], &challenge[56..]].concat().try_into().unwrap();
-        assert!(!sums(&secret).is_proof(&back));
+        let back = [&[0], &challenge[64..]].concat().try_into().unwrap();
+        assert_eq!(sums(&secret).lack(&back), None);
         for refusal in [None, Some(Refusal::Log)] {
             let verdict = sums(&secret).verdict(refusal);
             assert_eq!(Refusal::of_byte(verdict[0]), refusal);

@@ -1,7 +1,7 @@
 //! The handshake, from both sides.
 
 use super::{refused, Asked, Close, Knock, Role, Socket, Sockets, Step, BACKOFF};
-use crate::disk::{verdict, Heard, Note};
+use crate::disk::{verdict, Heard, Lack, Note};
 use crate::network::frames::Seal;
 use crate::network::handshake::{Direction, Hello, Known, Nonce, Refusal, Sums, CHALLENGE, HELLO, PROOF, VERDICT};
 use crate::{Error, NodeId};
@@ -71,7 +71,8 @@ impl Sockets {
             return Ok(());
         };
         let asked = *asked;
-        let Some(said) = Hello::of_bytes(&asked.hello).filter(|_| self.sums(&asked).is_proof(proof)) else {
+        let lack = self.sums(&asked).lack(proof);
+        let (Some(said), Some(lack)) = (Hello::of_bytes(&asked.hello), lack) else {
             self.turn_away(slot, &asked, Refusal::Secret);
             return Ok(());
         };
@@ -83,13 +84,18 @@ impl Sockets {
             return Ok(());
         };
         let known = self.desk.notes.heard_of(from);
-        if known.map(Known::from).unwrap_or_default().run != asked.known.run || self.desk.is_noting(from) {
+        if known.map(Known::from).unwrap_or_default().start != asked.known.start || self.desk.is_noting(from) {
             // another start has come meanwhile, so this one is to ask again
+            return Err(Close(None));
+        }
+        if lack == Some(Lack::Others) {
+            let why = "it was known here by a later start: this folder is an old copy";
+            self.setup.inbox.fail(Error::KeptOut(from, why.into()));
             return Err(Close(None));
         }
         let Hello { presence, log, .. } = said;
         let next = Heard { presence, log };
-        let verdict = verdict(known, next, proof[0] == 1);
+        let verdict = verdict(known, next, lack.is_none());
         let why = verdict.err().map(|refusal| refusal.to_string());
         self.setup.metrics.note_peer(from, why);
         if let Err(refusal) = verdict {
@@ -153,20 +159,20 @@ impl Sockets {
         let known = self.sums(&asked).known(challenge);
         asked.known = known.ok_or_else(|| refused(Refusal::Secret))?;
         let notes = &self.desk.notes;
-        match notes.told_too(to, asked.known.run, self.presence.run) {
-            Some(told) if !notes.has_told(to, &told) => {
+        match notes.told_too(to, asked.known.start, self.presence.start()) {
+            Ok(told) if !notes.has_told(to, &told) => {
                 let step = Step::Noting(asked);
                 self.set_role(slot, Role::Link { to, step });
                 self.want(slot, Note::Told(to, told));
             }
-            told => self.prove(slot, asked, told.is_some()),
+            told => self.prove(slot, asked, told.err()),
         }
         Ok(())
     }
 
     /// Shows the other node that this one has the secret, and says whether it has the start by which it is known.
-    pub(super) fn prove(&mut self, slot: usize, asked: Asked, has_run: bool) {
-        let proof = self.sums(&asked).proof(has_run);
+    pub(super) fn prove(&mut self, slot: usize, asked: Asked, lack: Option<Lack>) {
+        let proof = self.sums(&asked).proof(lack);
         if let Some(Socket {
             role: Role::Link { step, .. },
             ..

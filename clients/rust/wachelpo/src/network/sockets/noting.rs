@@ -115,7 +115,7 @@ impl Sockets {
                     ..
                 }),
                 Note::Told(..),
-            ) => self.prove(slot, *asked, true),
+            ) => self.prove(slot, *asked, None),
             (
                 Some(Socket {
                     role: Role::Stranger(Knock::Noted(asked)),
