@@ -1,13 +1,11 @@
 -- What holds along a node's commands, as what its records may be told.
-use Rattle.std.specs.Prelude.{ℕ, ◌≡◌, ◌<◌, Bool, true, false, List, Option, None, Some, Result, Ok, Err, IfOk, OnOk, if◌then◌else◌, length, refl, slice_get, slice_set}
+use Rattle.std.specs.Prelude.{ℕ, ◌≡◌, ◌<◌, Bool, true, false, List, Option, None, Some, if◌then◌else◌, length, refl, slice_get, slice_set}
 use Rattle.std.specs.List.{slice_index_or}
 use Rattle.std.proofs.Common.{◌∙◌, arith, sym, subst, suc}
 use Rattle.std.proofs.lemmas.List.{get_or-set_same, length-set}
 use Rattle.std.proofs.lemmas.Option.{slice_get_read}
 use Rattle.raft_command.specs.Queue.{Queue, popped}
 use Rattle.raft_store.specs.declared.entry.Entry.{Entry}
-use Rattle.raft_store.specs.Entries.{entry_meaning}
-use Rattle.raft_store.specs.Mirror.{IsGapless}
 use Rattle.raft_store.specs.Types.{EngineView, WorldCommand}
 use Rattle.raft_node.specs.declared.act.Act.{Act}
 use Rattle.raft_node.specs.declared.given.Given.{Given}
@@ -22,15 +20,11 @@ use Rattle.raft_node.specs.declared.act.Aim.{Aim}
 use Rattle.raft_node.specs.Events.{Scene, aim_of, at_node, at_place, called_at, calls, finish, happens, moment_of, place_of, played, requested, scene, scene_of, skip_reason, turn_of, work_of}
 use Rattle.raft_node.specs.Execute.{exec}
 use Rattle.raft_calls.specs.Feeds.{feed}
-use Rattle.raft_calls.specs.Held.{IsRestingWhereRunning}
-use Rattle.raft_node.specs.Held.{MayCall}
-use Rattle.raft_node.specs.MayKeep.{AllMayKeep, KeepsDuring, KeepsThrough, RecordsThrough}
+use Rattle.raft_node.specs.MayKeep.{AllMayKeep, KeepsDuring, KeepsThrough}
 use Rattle.raft_node.specs.Net.{Net, NodeView, Records}
 use Rattle.raft_node.specs.Runs.{net_of, whole_logs}
-use Rattle.raft_node.specs.Safety.{RecordsGrow}
-use Rattle.raft_node.specs.Work.{Work, done_of, idle, one_less, step_of, stopped, stops, weight, work_step, worked}
+use Rattle.raft_node.specs.Work.{Work, done_of, idle, one_less, step_of, stopped, stops, work_step, worked}
 use Rattle.raft_calls.specs.Engines.{with_queue}
-use Rattle.raft_node.proofs.Ready.{played_resting}
 
 abbrev work_of_choice : {L : Type 0} → Work L → Work L
 work_of_choice w = w
@@ -111,17 +105,6 @@ module _ {L : Type 0} (keep : List Entry → L) (given : Given) (act : Act) (eve
       subst (λ (p : Option ℕ × Scene L). P (turn_of act (called_at moment s).node) (work_of event.stop p.1)) (sym is) timed in
       subst (λ (k : ℕ). P (record { id = k; moment = moment; request = request }) (work_of event.stop r.1)) (sym named)
       (subst (λ (q : Option Message). P (record { id = s.node.id; moment = moment; request = q }) (work_of event.stop r.1)) (sym asked) called)
-
--- an event at a node whose engine is at rest, and that has what the act's calls ask for, leaves its engine at rest
-pub rests_along : {L E : Type 0} (keep : List Entry → L) (given : Given) (act : Act) (event : Event) (s : Scene L) (n : NodeView) (v : Records L) (r : Result Outcome E)
-    → IfOk r (λ o. (o, scene n v) ≡ played keep weight given act event s) → IsRestingWhereRunning s.node.engine → OnOk r (MayCall act s.node) → OnOk r (IsRestingWhereRunning n.engine)
-rests_along {L = L} keep given act event s n v (Ok o) is rests may =
-    subst (λ (p : Outcome × Scene L). IsRestingWhereRunning p.1.node.engine) (sym is) (played_resting keep given act event s rests (λ _. may))
-rests_along keep given act event s n v (Err e) is rests may = tt
-
--- what a world may keep, its records may be told
-pub keeps_told : (given : Given) (act : Act) (event : Event) (s : Scene (List Entry)) → KeepsThrough given act event s → RecordsThrough whole_logs (IsGapless entry_meaning) RecordsGrow given act event s
-keeps_told given act event s h n = record { keeps = (h n).gapless; told = (h n).grows }
 
 -- an event at a place of the world, and of the world
 module _ (given : Given) (act : Act) (event : Event) (nodes : List NodeView) (records : Records (List Entry)) (i : ℕ) (n : NodeView)

@@ -33,6 +33,10 @@ pub record MayKeep (engine : Option EngineView) (store : WorldStore) (records : 
   pub grows : RecordsGrow records
   pub next : CanStoreNext engine store
 
+-- after any number of a node's commands
+abbrev pub KeepsAlong : Turn → Work (List Entry) → Type 0
+KeepsAlong t w = (n : ℕ) → MayKeep (worked whole_logs n t w).engine (worked whole_logs n t w).effects.store (worked whole_logs n t w).effects.records
+
 -- after any number of an event's commands, at its node
 abbrev pub KeepsThrough : Given → Act → Event → Scene (List Entry) → Type 0
 KeepsThrough given act event s =
@@ -46,27 +50,3 @@ pub record AllMayKeep (net : Net (List Entry)) : Type 0 where
 
 abbrev pub KeepsDuring : Given → Event → Net (List Entry) → Type 0
 KeepsDuring given event net = (n : ℕ) → AllMayKeep (happens whole_logs (λ _. n) given event net).1
-
--- a recorder can keep the whole log of a node's store, and be told all that it is told
-module _ {L : Type 0} (keep : List Entry → L) (can_keep : WorldStore → Type 0) (can_record : Records L → Type 0) where
-  pub record MayRecord (store : WorldStore) (records : Records L) : Type 0 where
-    pub keeps : can_keep store
-    pub told : can_record records
-
-  -- after any number of a node's commands
-  abbrev pub RecordsAlong : Turn → Work L → Type 0
-  RecordsAlong t w = (n : ℕ) → MayRecord (worked keep n t w).effects.store (worked keep n t w).effects.records
-
-  -- after any number of an event's commands, at its node
-  abbrev pub RecordsThrough : Given → Act → Event → Scene L → Type 0
-  RecordsThrough given act event s =
-      (n : ℕ) → MayRecord (played keep (λ _. n) given act event s).1.node.store (played keep (λ _. n) given act event s).1.records
-
--- a node's store can take each of its queued commands at its turn
-abbrev pub StoresAlong : {L : Type 0} → (List Entry → L) → Turn → Work L → Type 0
-StoresAlong keep t w = (n : ℕ) → CanStoreNext (worked keep n t w).engine (worked keep n t w).effects.store
-
--- and each command of an event
-abbrev pub StoresThrough : {L : Type 0} → (List Entry → L) → Given → Act → Event → Scene L → Type 0
-StoresThrough keep given act event s =
-    (n : ℕ) → CanStoreNext (played keep (λ _. n) given act event s).1.node.engine (played keep (λ _. n) given act event s).1.node.store

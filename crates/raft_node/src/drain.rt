@@ -1,19 +1,21 @@
 //! How a node executes its queue.
 
-ghost use Rattle.std.specs.Prelude.{◌≡◌, IfErr, OnOk, true, false};
+ghost use Rattle.std.specs.Prelude.{◌≡◌, OnOk, true, false};
 ghost use Rattle.std.specs.List.{fold};
 ghost use Rattle.std.specs.Option.{option_to_list};
+ghost use Rattle.raft_store.specs.Entries.{entry_meaning};
+ghost use Rattle.raft_store.specs.Mirror.{IsGapless};
 ghost use Rattle.raft_node.specs.Commands.{all_executed, next_command_of};
-ghost use Rattle.raft_node.specs.declared.error.StepError.TheVariants.{OutOfMemory};
 ghost use Rattle.raft_node.specs.Events.{scene, scene_of, work_of};
-ghost use Rattle.raft_node.specs.MayKeep.{CanStoreNext, RecordsAlong, StoresAlong};
+ghost use Rattle.raft_node.specs.MayKeep.{CanStoreNext, KeepsAlong};
+ghost use Rattle.raft_node.specs.Runs.{whole_logs};
+ghost use Rattle.raft_node.specs.Safety.{RecordsGrow};
 ghost use Rattle.raft_node.specs.Work.{weight, work_step, worked, is_idle, stop_after, stops, one_less};
 ghost use Rattle.raft_calls.specs.Held.{IsReadyWhereRunning};
 
-use crate::error::StepError;
 use crate::execute::execute;
 use crate::node::{Node, Turn};
-use crate::recorder::Recorder;
+use crate::record::Records;
 use crate::watch::Watch;
 use raft_calls::feed::{feed_engine, feed_of};
 use std::alloc::AllocError;
@@ -51,7 +53,11 @@ impl Node {
     }
 
     /// Shows the next command, if there is one.
-    fn show_next<R, W: Watch<R>>(&self, records: &R, watch: &mut W) -> Result<(), AllocError>
+    fn show_next<W: Watch<Records>>(
+        &self,
+        records: &Records,
+        watch: &mut W,
+    ) -> Result<(), AllocError>
         ensures { OnOk result (W.seen watch.new ≡ fold W.sees (W.seen watch.old) (option_to_list (next_command_of self.now.engine))) }
     {
         let Some(running) = &self.running else {
@@ -65,20 +71,20 @@ impl Node {
 
     /// Executes the first command; then stops the node, or feeds the command back.
     #[tactic(auto, using(raft_calls::proofs::Ready::pop_ready, raft_calls::proofs::Ready::pop_held))]
-    fn advance<R: Recorder>(
+    fn advance(
         &mut self,
         turn: &Turn,
-        records: &mut R,
+        records: &mut Records,
         left: &mut Option<u64>,
-    ) -> Result<(), StepError>
+    ) -> Result<(), AllocError>
         requires ready { IsReadyWhereRunning self.old.engine }
-        requires keeps { R.can_keep self.old.store }
-        requires told { R.can_record (work_step R.keep turn.now (work_of left.old (scene self.old (R.view records.old)))).effects.records }
+        requires gapless { IsGapless entry_meaning self.old.store }
+        requires next { CanStoreNext self.old.engine self.old.store }
+        requires grows { RecordsGrow (work_step whole_logs turn.now (work_of left.old (scene self.old records.old))).effects.records }
         ensures id { OnOk result (self.new.id ≡ self.old.id) }
         ensures moment { OnOk result (self.new.moment ≡ self.old.moment) }
-        ensures work { OnOk result (work_of left.new (scene self.new (R.view records.new))
-            ≡ work_step R.keep turn.now (work_of left.old (scene self.old (R.view records.old)))) }
-        ensures fits { CanStoreNext self.old.engine self.old.store → IfErr result (λ e. e ≡ OutOfMemory) }
+        ensures work { OnOk result (work_of left.new (scene self.new records.new)
+            ≡ work_step whole_logs turn.now (work_of left.old (scene self.old records.old))) }
     {
         let Some(running) = self.running.as_mut() else {
             return Ok(());
@@ -86,10 +92,6 @@ impl Node {
         let Some(command) = running.engine.output.pop_command() else {
             return Ok(());
         };
-        if !self.store.can_store(&command) {
-            drop(command);
-            return Err(StepError::Gap);
-        }
         let feed = feed_of(&command);
         execute(turn, command, running, &mut self.store, records)?;
         if stops(left) {
@@ -103,22 +105,21 @@ impl Node {
     }
 
     /// Executes the queued commands until none is left or the node stops; each is shown before it is executed.
-    pub(crate) fn drain<R: Recorder, W: Watch<R>>(
+    pub(crate) fn drain<W: Watch<Records>>(
         &mut self,
         turn: &Turn,
         stop: Option<u64>,
-        records: &mut R,
+        records: &mut Records,
         watch: &mut W,
-    ) -> Result<(), StepError>
+    ) -> Result<(), AllocError>
         requires ready { IsReadyWhereRunning self.old.engine }
-        requires keeps { RecordsAlong R.keep R.can_keep R.can_record turn.now (work_of stop (scene self.old (R.view records.old))) }
+        requires keeps { KeepsAlong turn.now (work_of stop (scene self.old records.old)) }
         ensures idle { OnOk result (is_idle self.new.engine ≡ true) }
-        ensures work { OnOk result (scene self.new (R.view records.new) ≡ scene_of self.old
-            (worked R.keep (weight (work_of stop (scene self.old (R.view records.old)))) turn.now
-            (work_of stop (scene self.old (R.view records.old))))) }
+        ensures work { OnOk result (scene self.new records.new ≡ scene_of self.old
+            (worked whole_logs (weight (work_of stop (scene self.old records.old))) turn.now
+            (work_of stop (scene self.old records.old)))) }
         ensures watched { OnOk result (W.seen watch.new
-            ≡ fold W.sees (W.seen watch.old) (all_executed R.keep turn.now (work_of stop (scene self.old (R.view records.old))))) }
-        ensures fits { StoresAlong R.keep turn.now (work_of stop (scene self.old (R.view records.old))) → IfErr result (λ e. e ≡ OutOfMemory) }
+            ≡ fold W.sees (W.seen watch.old) (all_executed whole_logs turn.now (work_of stop (scene self.old records.old)))) }
     {
         let mut left = stop;
         'queue: while !self.is_idle() {

@@ -7,10 +7,14 @@ ghost use Rattle.raft_node.specs.Execute.{heartbeat};
 ghost use Rattle.raft_calls.specs.Deliveries.{session_of};
 ghost use Rattle.raft_calls.specs.Feeds.{last_sent};
 ghost use Rattle.raft_command.specs.declared.command.Command.TheVariants.{StateMachine};
+ghost use Rattle.raft_store.specs.Entries.{entry_meaning};
+ghost use Rattle.raft_store.specs.Mirror.{IsGapless};
 ghost use Rattle.raft_store.specs.Ring.{CanStore};
+ghost use Rattle.raft_node.specs.Runs.{whole_logs};
+ghost use Rattle.raft_node.specs.Safety.{RecordsGrow};
 
 use crate::node::{Running, Streams, Turn};
-use crate::recorder::Recorder;
+use crate::record::Records;
 use raft_calls::deliver::session_of;
 use raft_calls::feed::last_sent;
 use raft_calls::message::{Body, Message, Origin};
@@ -36,14 +40,14 @@ fn others(alloc: Global, id: u64, membership: &Membership<u64, ()>) -> Result<Ve
 }
 
 /// Sends one message to each of these.
-fn send_to_each<R: Recorder>(
+fn send_to_each(
     alloc: Global,
     id: u64,
     ids: &[u64],
     body: &Body,
-    records: &mut R,
+    records: &mut Records,
 ) -> Result<(), AllocError>
-    ensures { OnOk result (R.view records.new ≡ record (R.view records.old) { bag = (R.view records.old).bag ++ to_each id ids.now body.now }) }
+    ensures { OnOk result (records.new ≡ record records.old { bag = records.old.bag ++ to_each id ids.now body.now }) }
 {
     for to in ids {
         records.send(Message {
@@ -147,12 +151,8 @@ fn reply_to(request: &Body, reply: Respond<WorldConfig>) -> Option<Body>
 }
 
 /// Sends the reply to the sender of the delivered message.
-fn reply<R: Recorder>(
-    turn: &Turn,
-    reply: Respond<WorldConfig>,
-    records: &mut R,
-) -> Result<(), AllocError>
-    ensures { OnOk result (R.view records.new ≡ record (R.view records.old) { bag = (R.view records.old).bag ++ replies turn.now reply }) }
+fn reply(turn: &Turn, reply: Respond<WorldConfig>, records: &mut Records) -> Result<(), AllocError>
+    ensures { OnOk result (records.new ≡ record records.old { bag = records.old.bag ++ replies turn.now reply }) }
 {
     let Some(request) = &turn.request else {
         return Ok(());
@@ -168,16 +168,16 @@ fn reply<R: Recorder>(
 }
 
 /// Sends a leader's committed id to each target.
-fn tell_committed<R: Recorder>(
+fn tell_committed(
     alloc: Global,
     turn: &Turn,
     session_id: &ReplicationSessionId<u64>,
     committed: Option<LogId<u64>>,
     targets: &[u64],
-    records: &mut R,
+    records: &mut Records,
 ) -> Result<(), AllocError>
-    ensures { OnOk result (R.view records.new ≡ record (R.view records.old) {
-      bag = (R.view records.old).bag ++ to_each turn.now.id targets.now (heartbeat turn.now session_id.now committed);
+    ensures { OnOk result (records.new ≡ record records.old {
+      bag = records.old.bag ++ to_each turn.now.id targets.now (heartbeat turn.now session_id.now committed);
     }) }
 {
     let body = heartbeat(alloc, turn, session_id, committed);
@@ -185,19 +185,19 @@ fn tell_committed<R: Recorder>(
 }
 
 /// Sends a leader's committed id to each target, and records it as decided.
-fn replicate_committed<R: Recorder>(
+fn replicate_committed(
     alloc: Global,
     turn: &Turn,
     committed: Option<LogId<u64>>,
     running: &Running,
     store: &Store,
-    records: &mut R,
+    records: &mut Records,
 ) -> Result<(), AllocError>
-    requires keeps { R.can_keep store.now }
-    requires told { R.can_record
-        (exec_committed R.keep turn.now committed (effects store.now running.now.streams running.now.noted (R.view records.old))).records }
-    ensures { OnOk result (effects store.now running.now.streams running.now.noted (R.view records.new)
-        ≡ exec_committed R.keep turn.now committed (effects store.now running.now.streams running.now.noted (R.view records.old))) }
+    requires gapless { IsGapless entry_meaning store.now }
+    requires grows { RecordsGrow
+        (exec_committed whole_logs turn.now committed (effects store.now running.now.streams running.now.noted records.old)).records }
+    ensures { OnOk result (effects store.now running.now.streams running.now.noted records.new
+        ≡ exec_committed whole_logs turn.now committed (effects store.now running.now.streams running.now.noted records.old)) }
 {
     let Some(session_id) = &running.streams.session_id else {
         return Ok(());
@@ -217,17 +217,17 @@ fn target_ids(alloc: Global, targets: &[(u64, ProgressEntry<u64>)]) -> Result<Ve
 }
 
 /// Executes a command to the state machine.
-fn execute_payload<R: Recorder>(
+fn execute_payload(
     turn: &Turn,
     command: sm::Command<WorldConfig>,
     running: &mut Running,
     store: &mut Store,
-    records: &mut R,
+    records: &mut Records,
 ) -> Result<(), AllocError>
     ensures engine { running.new.engine ≡ running.old.engine }
-    ensures effects { OnOk result (effects store.new running.new.streams running.new.noted (R.view records.new)
-        ≡ exec_payload R.keep turn.now (StateMachine command) command.payload
-        (effects store.old running.old.streams running.old.noted (R.view records.old))) }
+    ensures effects { OnOk result (effects store.new running.new.streams running.new.noted records.new
+        ≡ exec_payload whole_logs turn.now (StateMachine command) command.payload
+        (effects store.old running.old.streams running.old.noted records.old)) }
 {
     match &command.payload {
         CommandPayload::BuildSnapshot => {
@@ -244,21 +244,21 @@ fn execute_payload<R: Recorder>(
 }
 
 /// Executes a command at the node of this turn, which runs on this store.
-pub fn execute<R: Recorder>(
+pub fn execute(
     turn: &Turn,
     command: Command<WorldConfig>,
     running: &mut Running,
     store: &mut Store,
-    records: &mut R,
+    records: &mut Records,
 ) -> Result<(), AllocError>
-    requires keeps { R.can_keep store.old }
-    requires told { R.can_record (exec R.keep turn.now (view_of running.old.engine) command
-        (effects store.old running.old.streams running.old.noted (R.view records.old))).records }
+    requires gapless { IsGapless entry_meaning store.old }
+    requires grows { RecordsGrow (exec whole_logs turn.now (view_of running.old.engine) command
+        (effects store.old running.old.streams running.old.noted records.old)).records }
     requires fits { CanStore command store.old }
     ensures engine { running.new.engine ≡ running.old.engine }
-    ensures effects { OnOk result (effects store.new running.new.streams running.new.noted (R.view records.new)
-        ≡ exec R.keep turn.now (view_of running.old.engine) command
-        (effects store.old running.old.streams running.old.noted (R.view records.old))) }
+    ensures effects { OnOk result (effects store.new running.new.streams running.new.noted records.new
+        ≡ exec whole_logs turn.now (view_of running.old.engine) command
+        (effects store.old running.old.streams running.old.noted records.old)) }
 {
     let alloc = store.allocator();
     match command {

@@ -3,11 +3,8 @@
 
 pub mod act;
 pub mod drain;
-pub mod error;
 pub mod execute;
 pub mod given;
 pub mod node;
-pub mod outbox;
 pub mod record;
-pub mod recorder;
 pub mod watch;

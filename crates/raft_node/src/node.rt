@@ -1,19 +1,17 @@
 //! The nodes of a world, and events at them.
 
-ghost use Rattle.std.specs.Prelude.{◌≡◌, IfErr, IfOk, OnOk, max, true, unwrap_or, Option, None};
+ghost use Rattle.std.specs.Prelude.{◌≡◌, IfOk, OnOk, max, unwrap_or, Option, None};
 ghost use Rattle.std.specs.List.{fold};
 ghost use Rattle.std.specs.Option.{option_map, option_copied};
 ghost use Rattle.std.specs.Ordering.{nat_cmp};
 ghost use Rattle.raft_state.specs.Invariants.{IsSoundState};
-ghost use Rattle.raft_node.specs.declared.error.StepError.TheVariants.{OutOfMemory};
-ghost use Rattle.raft_node.specs.declared.node.Trust.TheVariants.{Known};
 ghost use Rattle.raft_node.specs.Commands.{all_executed, commands_at};
 ghost use Rattle.raft_calls.specs.Engines.{view_of};
 ghost use Rattle.raft_node.specs.Events.{answer_at, called_at, calls, calls_at, finish, moment_of, outcome_of, played, scene, skip_reason};
 ghost use Rattle.raft_node.specs.Events.{skip_running, turn_of, with_answer, work_of};
 ghost use Rattle.raft_node.specs.Held.{IsAtRest, MayCall, NotedFits};
 ghost use Rattle.raft_calls.specs.Held.{IsReadyWhereRunning, IsRestingWhereRunning};
-ghost use Rattle.raft_node.specs.MayKeep.{KeepsThrough, RecordsAlong, RecordsThrough, StoresAlong, StoresThrough};
+ghost use Rattle.raft_node.specs.MayKeep.{KeepsAlong, KeepsThrough};
 ghost use Rattle.raft_node.specs.Net.{new_node, no_streams, stopped_node};
 ghost use Rattle.raft_node.specs.Runs.{whole_logs};
 ghost use Rattle.raft_node.specs.Snapshots.{finish_snapshot, skip_finish};
@@ -21,10 +19,8 @@ ghost use Rattle.raft_node.specs.Starts.{opened, restart, started_at, state_for}
 ghost use Rattle.raft_node.specs.Work.{weight};
 
 use crate::act::{Act, skip_stopped};
-use crate::error::StepError;
 use crate::given::Given;
 use crate::record::Records;
-use crate::recorder::Recorder;
 use crate::watch::Watch;
 use raft_calls::deliver::{deliver, skip_delivery};
 use raft_calls::elections::{elect, initialize, skip_elect, skip_initialize};
@@ -37,7 +33,6 @@ use raft_calls::message::Message;
 use raft_calls::raft_engine::Engine;
 use raft_calls::snapshots::{tell_built, trigger_purge, trigger_snapshot};
 use raft_calls::start::{start_engine, started_engine};
-use raft_calls::trust::{is_sound, note_fits};
 use raft_command::{EngineConfig, ReplicationSessionId};
 use raft_schedule::event::{Event, Outcome, SkipReason, Start};
 use raft_state::{Items, RaftState};
@@ -145,16 +140,9 @@ pub struct Turn {
     pub request: Option<Message>,
 }
 
-/// Whether what an act's calls ask of a node, beside rest, is known to hold, as at each node of a world, or is to be tested.
-#[derive(Clone, Copy, PartialEq, Eq, Debug)]
-enum Trust {
-    Known,
-    Tested,
-}
-
 /// Records an answer, if there is one.
-fn record_answer<R: Recorder>(answer: Option<Answer>, records: &mut R) -> Result<(), AllocError>
-    ensures { OnOk result (R.view records.new ≡ with_answer answer (R.view records.old)) }
+fn record_answer(answer: Option<Answer>, records: &mut Records) -> Result<(), AllocError>
+    ensures { OnOk result (records.new ≡ with_answer answer records.old) }
 {
     match answer {
         Some(answer) => records.answer(answer),
@@ -174,18 +162,6 @@ impl Node {
             running: Some(Running::new(alloc, engine)),
             moment: 0,
         })
-    }
-
-    /// A node that doesn't run, on this store; `moment` is the greatest of its events so far, in milliseconds.
-    pub fn stopped(id: u64, store: Store, moment: u64) -> Self
-        ensures { result ≡ record { id = id; store = store; engine = None; streams = no_streams; noted = None; moment = moment } }
-    {
-        Node {
-            id,
-            store,
-            running: None,
-            moment,
-        }
     }
 
     /// The node's id.
@@ -340,32 +316,6 @@ impl Node {
         }
     }
 
-    /// As `call`, once it is tested what the act's calls ask of the node.
-    fn try_call(&mut self, alloc: Global, given: &Given, act: &Act) -> Result<Option<u8>, StepError>
-        requires resting { IsRestingWhereRunning self.old.engine }
-        requires taken { skip_reason act.now self.old ≡ None }
-        ensures calls { IfOk result (λ refusal. record { 0 = refusal; 1 = self.new } ≡ calls_at given.now act.now self.old) }
-        ensures may { OnOk result (MayCall act.now self.old) }
-        ensures fits { MayCall act.now self.old → IfErr result (λ e. e ≡ OutOfMemory) }
-    {
-        match act {
-            Act::Restart(start) => self.try_restart(alloc, &given.settings, *start),
-            Act::FinishSnapshot if !self.note_fits() => Err(StepError::StrayNote),
-            _ => Ok(self.call(alloc, given, act)?),
-        }
-    }
-
-    /// Whether what is noted for a snapshot, if the node runs and something is, fits its engine.
-    fn note_fits(&self) -> bool
-        ensures fits { result ≡ true → NotedFits self.now.engine self.now.noted }
-        ensures all { NotedFits self.now.engine self.now.noted → result ≡ true }
-    {
-        match (self.engine(), self.noted()) {
-            (Some(engine), Some(entries)) => note_fits(entries.as_slice(), engine),
-            _ => true,
-        }
-    }
-
     /// Starts the node on its store: a running one is stopped first. Returns the number of the refusal, if any.
     ///
     /// Source: Raft paper, figure 2 and section 5.5.
@@ -381,25 +331,6 @@ impl Node {
     {
         let state = self.prepare(start)?;
         self.start_with(alloc, settings, start, state)
-    }
-
-    /// As `restart`, once the state that the store gives is tested.
-    #[tactic(auto, using(crate::proofs::Along::restart_along))]
-    fn try_restart(
-        &mut self,
-        alloc: Global,
-        settings: &EngineConfig<u64>,
-        start: Start,
-    ) -> Result<Option<u8>, StepError>
-        ensures starts { IfOk result (λ refusal. record { 0 = refusal; 1 = self.new } ≡ restart settings.now start self.old) }
-        ensures sound { OnOk result (IsSoundState nat_cmp (state_for start self.old.store)) }
-        ensures fits { IsSoundState nat_cmp (state_for start self.old.store) → IfErr result (λ e. e ≡ OutOfMemory) }
-    {
-        let state = self.prepare(start)?;
-        if !is_sound(&state) {
-            return Err(StepError::UnsoundState);
-        }
-        Ok(self.start_with(alloc, settings, start, state)?)
     }
 
     /// Stops the node, and makes its store ready for a start, to which it gives this state.
@@ -466,49 +397,42 @@ impl Node {
     }
 
     /// Makes the act's calls at this moment, and records what they answer. Returns the number of the refusal, if any.
-    fn begin<R: Recorder>(
+    fn begin(
         &mut self,
         alloc: Global,
         given: &Given,
         act: &Act,
         moment: u64,
-        trust: Trust,
-        records: &mut R,
-    ) -> Result<Option<u8>, StepError>
+        records: &mut Records,
+    ) -> Result<Option<u8>, AllocError>
         requires resting { IsRestingWhereRunning self.old.engine }
-        requires may { trust ≡ Known → MayCall act.now self.old }
+        requires may { MayCall act.now self.old }
         requires taken { skip_reason act.now self.old ≡ None }
-        ensures calls { IfOk result (λ refusal. record { 0 = refusal; 1 = scene self.new (R.view records.new) }
-            ≡ calls given.now act.now (called_at moment (scene self.old (R.view records.old)))) }
-        ensures may { OnOk result (MayCall act.now self.old) }
-        ensures fits { MayCall act.now self.old → IfErr result (λ e. e ≡ OutOfMemory) }
+        ensures { IfOk result (λ refusal. record { 0 = refusal; 1 = scene self.new records.new }
+            ≡ calls given.now act.now (called_at moment (scene self.old records.old))) }
     {
         self.moment = moment;
-        let refusal = match trust {
-            Trust::Known => self.call(alloc, given, act)?,
-            Trust::Tested => self.try_call(alloc, given, act)?,
-        };
+        let refusal = self.call(alloc, given, act)?;
         record_answer(self.answer(act), records)?;
         Ok(refusal)
     }
 
     /// Executes the queue after the event's calls.
     #[tactic(auto, unfolding(crate::specs::Events::finish))]
-    fn finish<R: Recorder, W: Watch<R>>(
+    fn finish<W: Watch<Records>>(
         &mut self,
         turn: &Turn,
         stop: Option<u64>,
         refusal: Option<u8>,
-        records: &mut R,
+        records: &mut Records,
         watch: &mut W,
-    ) -> Result<Outcome, StepError>
+    ) -> Result<Outcome, AllocError>
         requires ready { IsReadyWhereRunning self.old.engine }
-        requires keeps { RecordsAlong R.keep R.can_keep R.can_record turn.now (work_of stop (scene self.old (R.view records.old))) }
-        ensures does { IfOk result (λ o. record { 0 = o; 1 = scene self.new (R.view records.new) }
-            ≡ finish R.keep weight turn.now stop refusal (scene self.old (R.view records.old))) }
+        requires keeps { KeepsAlong turn.now (work_of stop (scene self.old records.old)) }
+        ensures does { IfOk result (λ o. record { 0 = o; 1 = scene self.new records.new }
+            ≡ finish whole_logs weight turn.now stop refusal (scene self.old records.old)) }
         ensures watched { OnOk result (W.seen watch.new
-            ≡ fold W.sees (W.seen watch.old) (all_executed R.keep turn.now (work_of stop (scene self.old (R.view records.old))))) }
-        ensures fits { StoresAlong R.keep turn.now (work_of stop (scene self.old (R.view records.old))) → IfErr result (λ e. e ≡ OutOfMemory) }
+            ≡ fold W.sees (W.seen watch.old) (all_executed whole_logs turn.now (work_of stop (scene self.old records.old)))) }
     {
         self.drain(turn, stop, records, watch)?;
         Ok(self.outcome(refusal))
@@ -527,74 +451,33 @@ impl Node {
 
     /// Plays an event that is not skipped.
     #[tactic(auto, unfolding(crate::specs::Events::played))]
-    fn perform<R: Recorder, W: Watch<R>>(
+    fn perform<W: Watch<Records>>(
         &mut self,
         alloc: Global,
         given: &Given,
         act: Act,
         event: &Event,
-        trust: Trust,
-        records: &mut R,
+        records: &mut Records,
         watch: &mut W,
-    ) -> Result<Outcome, StepError>
+    ) -> Result<Outcome, AllocError>
         requires resting { IsRestingWhereRunning self.old.engine }
-        requires may { trust ≡ Known → MayCall act self.old }
+        requires may { MayCall act self.old }
         requires taken { skip_reason act self.old ≡ None }
-        requires keeps { RecordsThrough R.keep R.can_keep R.can_record given.now act event.now (scene self.old (R.view records.old)) }
-        ensures does { IfOk result (λ o. record { 0 = o; 1 = scene self.new (R.view records.new) }
-            ≡ played R.keep weight given.now act event.now (scene self.old (R.view records.old))) }
+        requires keeps { KeepsThrough given.now act event.now (scene self.old records.old) }
+        ensures does { IfOk result (λ o. record { 0 = o; 1 = scene self.new records.new }
+            ≡ played whole_logs weight given.now act event.now (scene self.old records.old)) }
         ensures watched { OnOk result (W.seen watch.new
-            ≡ fold W.sees (W.seen watch.old) (commands_at R.keep given.now act event.now (scene self.old (R.view records.old)))) }
-        ensures may { OnOk result (MayCall act self.old) }
-        ensures fits { MayCall act self.old → StoresThrough R.keep given.now act event.now (scene self.old (R.view records.old))
-            → IfErr result (λ e. e ≡ OutOfMemory) }
+            ≡ fold W.sees (W.seen watch.old) (commands_at whole_logs given.now act event.now (scene self.old records.old))) }
     {
         let id = self.id;
         let moment = event.at.unwrap_or(0).max(self.moment);
-        let refusal = self.begin(alloc, given, &act, moment, trust, records)?;
+        let refusal = self.begin(alloc, given, &act, moment, records)?;
         let turn = Turn {
             id,
             moment,
             request: act.requested(),
         };
         self.finish(&turn, event.stop, refusal, records, watch)
-    }
-
-    /// Plays an event at the node, whoever is told what it does. It asks of the node alone that its engine is at rest, as
-    /// each step leaves it. After an error the node takes no further step.
-    ///
-    /// Refused:
-    /// - `StrayNote` if a build is to end and what is noted doesn't fit the engine's log,
-    /// - `UnsoundState` if the node is to start and the state that its store gives isn't sound,
-    /// - `Gap`, whenever entries to be stored don't continue the stored ones,
-    /// - `OutOfMemory`, whenever it occurs.
-    ///
-    /// A node that is at rest (`IsAtRest`) and whose store can take each of the commands stops for memory alone (`fits`):
-    /// so does each node of a world, and each server that follows one.
-    #[tactic(auto, unfolding(crate::specs::Events::played))]
-    pub fn step<R: Recorder, W: Watch<R>>(
-        &mut self,
-        alloc: Global,
-        given: &Given,
-        act: Act,
-        event: &Event,
-        records: &mut R,
-        watch: &mut W,
-    ) -> Result<Outcome, StepError>
-        requires resting { IsRestingWhereRunning self.old.engine }
-        requires keeps { RecordsThrough R.keep R.can_keep R.can_record given.now act event.now (scene self.old (R.view records.old)) }
-        ensures does { IfOk result (λ o. record { 0 = o; 1 = scene self.new (R.view records.new) }
-            ≡ played R.keep weight given.now act event.now (scene self.old (R.view records.old))) }
-        ensures watched { OnOk result (W.seen watch.new
-            ≡ fold W.sees (W.seen watch.old) (commands_at R.keep given.now act event.now (scene self.old (R.view records.old)))) }
-        ensures fits { IsAtRest self.old → StoresThrough R.keep given.now act event.now (scene self.old (R.view records.old))
-            → IfErr result (λ e. e ≡ OutOfMemory) }
-        ensures rests { OnOk result (IsRestingWhereRunning self.new.engine) }
-    {
-        match self.skip_reason(alloc, &act)? {
-            Some(reason) => Ok(Outcome::Skipped(reason)),
-            None => self.perform(alloc, given, act, event, Trust::Tested, records, watch),
-        }
     }
 
     /// Plays an event at a node of a world.
@@ -616,10 +499,6 @@ impl Node {
         if let Some(reason) = self.skip_reason(alloc, &act)? {
             return Ok(Outcome::Skipped(reason));
         }
-        match self.perform(alloc, given, act, event, Trust::Known, records, watch) {
-            Ok(outcome) => Ok(outcome),
-            // no store of a world has a gap: memory ran out
-            Err(_) => Err(AllocError),
-        }
+        self.perform(alloc, given, act, event, records, watch)
     }
 }

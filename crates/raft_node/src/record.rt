@@ -8,10 +8,9 @@ ghost use Rattle.raft_store.specs.Mirror.{IsGapless};
 ghost use Rattle.raft_store.specs.Store.{whole, whole_upto};
 ghost use Rattle.raft_calls.specs.Inboxes.{numbers_left, numbers_to};
 ghost use Rattle.raft_node.specs.Kept.{decided_by_leader, established_by_leader};
-ghost use Rattle.raft_node.specs.Net.{no_records};
+ghost use Rattle.raft_node.specs.Net.{no_records, with_decided, with_established};
 ghost use Rattle.raft_node.specs.Safety.{RecordsGrow};
 
-use crate::recorder::Recorder;
 use raft_calls::bag::Bag;
 use raft_calls::inboxes::MessageNumbers;
 use raft_calls::lead::Answer;
@@ -53,7 +52,7 @@ pub struct Established<L> {
 
 /// All messages ever sent, and what was executed, installed, decided, established and answered to reads, each in the
 /// order of the run. Of two whole logs of one leader the longer begins with the shorter, so of each leader only the
-/// longest is kept.
+/// longest is kept. Out of memory, nothing is promised of them.
 #[derive(Debug, Drop)]
 pub struct Records {
     pub executed: Vec<Executed>,
@@ -86,7 +85,7 @@ impl Model for Records {
 }
 
 /// Records that a node has executed entries.
-pub(crate) fn push_executed(
+fn push_executed(
     node: u64,
     entries: Vec<Entry>,
     executed: &mut Vec<Executed>,
@@ -310,41 +309,39 @@ impl Records {
     }
 }
 
-impl Recorder for Records {
-    ghost use Rattle.raft_store.specs.Entries.{entry_meaning};
-    ghost use Rattle.raft_store.specs.Mirror.{IsGapless};
-    ghost use Rattle.raft_node.specs.Runs.{whole_logs};
-    ghost use Rattle.raft_node.specs.Safety.{RecordsGrow};
-
-    type Kept = Items<Entry>;
-
-    ghost view = { λ records. records };
-
-    ghost keep = { whole_logs };
-
-    ghost can_keep = { IsGapless entry_meaning };
-
-    // of two whole logs of one leader, one must begin with the other
-    ghost can_record = { RecordsGrow };
-
-    fn send(&mut self, message: Message) -> Result<(), AllocError> {
+impl Records {
+    /// A message is sent.
+    pub fn send(&mut self, message: Message) -> Result<(), AllocError>
+        ensures { OnOk result (self.new ≡ record self.old { bag = self.old.bag ++ message ∷ [] }) }
+    {
         self.bag.push(message)
     }
 
-    fn execute(&mut self, node: u64, entries: Vec<Entry>) -> Result<(), AllocError> {
+    /// A node's state machine has applied entries.
+    pub fn execute(&mut self, node: u64, entries: Vec<Entry>) -> Result<(), AllocError>
+        ensures { OnOk result (self.new ≡ record self.old { executed = self.old.executed ++ map (λ e. record { node = node; entry = e }) entries.items }) }
+    {
         push_executed(node, entries, &mut self.executed)
     }
 
-    fn install(&mut self, node: u64, entries: Items<Entry>) -> Result<(), AllocError> {
+    /// A node has installed a snapshot of these entries.
+    pub fn install(&mut self, node: u64, entries: Items<Entry>) -> Result<(), AllocError>
+        ensures { OnOk result (self.new ≡ record self.old { installed = self.old.installed ++ record { node = node; entries = entries } ∷ [] }) }
+    {
         Ok(self.installed.push(Installed { node, entries })?)
     }
 
-    fn decide(
+    /// A leader has decided a commit, with the store's whole log up to it.
+    pub fn decide(
         &mut self,
         leader_id: LeaderId<u64>,
         log_id: LogId<u64>,
         store: &Store,
-    ) -> Result<(), AllocError> {
+    ) -> Result<(), AllocError>
+        requires gapless { IsGapless entry_meaning store.now }
+        requires grows { RecordsGrow (with_decided leader_id log_id (whole_upto store.now log_id.index) self.old) }
+        ensures { OnOk result (self.new ≡ with_decided leader_id log_id (whole_upto store.now log_id.index) self.old) }
+    {
         let log = store.whole_upto_len(log_id.index);
         let one = Decided {
             leader_id,
@@ -361,7 +358,12 @@ impl Recorder for Records {
         )
     }
 
-    fn establish(&mut self, leader_id: LeaderId<u64>, store: &Store) -> Result<(), AllocError> {
+    /// A leader is established, with the store's whole log.
+    pub fn establish(&mut self, leader_id: LeaderId<u64>, store: &Store) -> Result<(), AllocError>
+        requires gapless { IsGapless entry_meaning store.now }
+        requires grows { RecordsGrow (with_established leader_id (whole store.now) self.old) }
+        ensures { OnOk result (self.new ≡ with_established leader_id (whole store.now) self.old) }
+    {
         let log = store.whole_len();
         let one = Established { leader_id, log };
         push_record(
@@ -374,7 +376,10 @@ impl Recorder for Records {
         )
     }
 
-    fn answer(&mut self, answer: Answer) -> Result<(), AllocError> {
+    /// A leader has answered a read.
+    pub fn answer(&mut self, answer: Answer) -> Result<(), AllocError>
+        ensures { OnOk result (self.new ≡ record self.old { answers = self.old.answers ++ answer ∷ [] }) }
+    {
         Ok(self.answers.push(answer)?)
     }
 }

@@ -1,4 +1,4 @@
-use Rattle.std.proofs.Common.{rules, List, [], ◌∷◌, None, Option, Some, ap, refl, subst, sym, ℕ, ◌≡◌, ◌∙◌}
+use Rattle.std.proofs.Common.{List, [], ◌∷◌, None, Option, Some, ap, refl, subst, sym, ℕ, ◌≡◌, ◌∙◌}
 use Rattle.std.specs.Option.{option_copied_mut, option_map}
 use Rattle.raft_command.specs.Queue.{Queue, popped}
 use Rattle.raft_store.specs.declared.entry.Entry.{Entry}
@@ -12,6 +12,8 @@ use Rattle.raft_node.specs.declared.node.Turn.{Turn}
 use Rattle.raft_node.specs.Events.{scene, work_of}
 use Rattle.raft_node.specs.MayKeep.{CanStoreFirst, CanStoreNext}
 use Rattle.raft_node.specs.Net.{NodeView, no_streams}
+use Rattle.raft_node.specs.Runs.{whole_logs}
+use Rattle.raft_node.specs.Safety.{RecordsGrow}
 use Rattle.raft_node.specs.Work.{Work, done_of, step_of, work_step}
 use Rattle.raft_node.proofs.Keeping.{step_told}
 use Rattle.raft_node.proofs.node.Node.advance.Goals as goal
@@ -49,42 +51,37 @@ first_stored t q c h first = go q.items h first
     go [] h f = cc
     go (x ∷ xs) h f = let same : x ≡ c = cc in subst (λ (d : WorldCommand). CanStore d t) same h
 
-pub execute-requires-clause-told : goal.execute-requires-clause-told
-execute-requires-clause-told g c =
-    let r = g.R.Recorder in
+pub execute-requires-clause-grows : goal.execute-requires-clause-grows
+execute-requires-clause-grows c =
     let n = node_of c.self.inside.id c.self.inside.store c.self.inside.moment in
     let runs : c.args.self.now ≡ n (Some c.in-Some.running.now) = sym c.self.view_is ∙ ap n (sym c.as_mut.ensures.value ∙ ap option_copied_mut c.in-Some.is) in
-    step_told r.keep r.can_record c.args.turn.now (work_of c.args.left.now (scene (n (Some c.in-Some.running.now)) (r.view c.args.records.now)))
+    step_told whole_logs RecordsGrow c.args.turn.now (work_of c.args.left.now (scene (n (Some c.in-Some.running.now)) c.args.records.now))
     (view_of c.in-Some.running.now.engine) c.pop_command.result c.pop_command.new.self c.in-Some-pop_command.command
     refl c.pop_command.ensures.first c.pop_command.ensures.rest c.in-Some-pop_command.is
-    (subst (λ (m : NodeView). r.can_record (work_step r.keep c.args.turn.now (work_of c.args.left.now (scene m (r.view c.args.records.now)))).effects.records) runs c.requires.told)
+    (subst (λ (m : NodeView). RecordsGrow (work_step whole_logs c.args.turn.now (work_of c.args.left.now (scene m c.args.records.now))).effects.records) runs c.requires.grows)
 
 pub returns-in_default-pop_command-clause-work : goal.returns-in_default-pop_command-clause-work
-returns-in_default-pop_command-clause-work g c =
-    let r = g.R.Recorder in
+returns-in_default-pop_command-clause-work c =
     let n = node_of c.self.inside.id c.self.inside.store c.self.inside.moment in
     let running : Running = c.in-Some.running.now in
     let runs : c.args.self.now ≡ n (Some running) = sym c.self.view_is ∙ ap n (sym c.as_mut.ensures.value ∙ ap option_copied_mut c.in-Some.is) in
     let none : (popped running.engine.output).0 ≡ None = sym c.pop_command.ensures.first ∙ c.in_default-pop_command.is in
     let stays : c.pop_command.new.self ≡ running.engine.output =
     unpopped running.engine.output c.pop_command.new.self c.pop_command.result c.pop_command.ensures.first c.pop_command.ensures.rest c.in_default-pop_command.is in
-    ap (λ (q : Queue WorldCommand). work_of c.args.left.now (scene (n (Some (record running { engine = record running.engine { output = q } }))) (r.view c.args.records.now))) stays
-    ∙ sym (ap (λ (m : NodeView). work_step r.keep c.args.turn.now (work_of c.args.left.now (scene m (r.view c.args.records.now)))) runs
-    ∙ unstepped r.keep c.args.turn.now (work_of c.args.left.now (scene (n (Some running)) (r.view c.args.records.now))) (view_of running.engine) refl none)
+    ap (λ (q : Queue WorldCommand). work_of c.args.left.now (scene (n (Some (record running { engine = record running.engine { output = q } }))) c.args.records.now)) stays
+    ∙ sym (ap (λ (m : NodeView). work_step whole_logs c.args.turn.now (work_of c.args.left.now (scene m c.args.records.now))) runs
+    ∙ unstepped whole_logs c.args.turn.now (work_of c.args.left.now (scene (n (Some running)) c.args.records.now)) (view_of running.engine) refl none)
 
-pub returns-then-not-can_store-clause-fits : goal.returns-then-not-can_store-clause-fits
-returns-then-not-can_store-clause-fits g c = λ can.
+pub execute-requires-clause-fits : goal.execute-requires-clause-fits
+execute-requires-clause-fits c =
     let n = node_of c.self.inside.id c.self.inside.store c.self.inside.moment in
     let running : Running = c.in-Some.running.now in
     let runs : c.args.self.now ≡ n (Some running) = sym c.self.view_is ∙ ap n (sym c.as_mut.ensures.value ∙ ap option_copied_mut c.in-Some.is) in
-    let next : CanStoreNext (Some (view_of running.engine)) c.self.inside.store = subst (λ (m : NodeView). CanStoreNext m.engine m.store) runs can in
-    let stored : CanStore c.in-Some-pop_command.command c.self.inside.store =
-    first_stored c.self.inside.store running.engine.output c.in-Some-pop_command.command next (sym c.in-Some-pop_command.is ∙ c.pop_command.ensures.first) in
-    let able = c.can_store.ensures.1 stored in
-    search rules
+    let next : CanStoreNext (Some (view_of running.engine)) c.self.inside.store = subst (λ (m : NodeView). CanStoreNext m.engine m.store) runs c.requires.next in
+    first_stored c.self.inside.store running.engine.output c.in-Some-pop_command.command next (sym c.in-Some-pop_command.is ∙ c.pop_command.ensures.first)
 
 pub feed_engine-requires-clause-ready : goal.feed_engine-requires-clause-ready
-feed_engine-requires-clause-ready g c =
+feed_engine-requires-clause-ready c =
     let n = node_of c.self.inside.id c.self.inside.store c.self.inside.moment in
     let running : Running = c.in-Some.running.now in
     let runs : c.args.self.now ≡ n (Some running) = sym c.self.view_is ∙ ap n (sym c.as_mut.ensures.value ∙ ap option_copied_mut c.in-Some.is) in
@@ -94,7 +91,7 @@ feed_engine-requires-clause-ready g c =
     c.pop_command.ensures.first c.pop_command.ensures.rest c.in-Some-pop_command.is ready)
 
 pub feed_engine-requires-clause-held : goal.feed_engine-requires-clause-held
-feed_engine-requires-clause-held g c =
+feed_engine-requires-clause-held c =
     let n = node_of c.self.inside.id c.self.inside.store c.self.inside.moment in
     let running : Running = c.in-Some.running.now in
     let runs : c.args.self.now ≡ n (Some running) = sym c.self.view_is ∙ ap n (sym c.as_mut.ensures.value ∙ ap option_copied_mut c.in-Some.is) in

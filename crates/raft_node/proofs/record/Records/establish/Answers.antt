@@ -7,13 +7,13 @@ use Rattle.raft_node.specs.Net.{Records}
 use Rattle.raft_node.specs.Safety.{RecordsGrow}
 use Rattle.std.proofs.lemmas.List.{take_all}
 use Rattle.raft_node.proofs.Recorded.{establish_kept, establish_view}
-use Rattle.raft_node.proofs.record.RecordsRecorder.establish.Goals as goal
+use Rattle.raft_node.proofs.record.Records.establish.Goals as goal
 
 pub invariant_of-self : goal.invariant_of-self
 invariant_of-self c =
     let es : List Entry = whole c.args.store.now in
     let grow : RecordsGrow (record (kept_in c.self.inside.logs c.self.inside.decided.items c.self.inside.established.items) { established = established_in c.self.inside.logs c.self.inside.established.items ++ record { leader_id = c.args.leader_id; log = es } ∷ [] }) =
-    subst (λ (v : Records (List Entry)). RecordsGrow (record v { established = v.established ++ record { leader_id = c.args.leader_id; log = es } ∷ [] })) (sym c.self.view_is) c.requires.told in
+    subst (λ (v : Records (List Entry)). RecordsGrow (record v { established = v.established ++ record { leader_id = c.args.leader_id; log = es } ∷ [] })) (sym c.self.view_is) c.requires.grows in
     establish_kept c.args.leader_id es es c.whole_len-log.result c.whole_len-log.ensures
     (ap (λ (m : ℕ). take m es) c.whole_len-log.ensures ∙ take_all (length es) es (omega arith))
     c.self.inside.logs c.push_record.new.logs c.self.inside.decided.items c.self.inside.established.items c.push_record.new.records.items c.self.invariant grow
@@ -23,7 +23,7 @@ pub returns : goal.returns
 returns c =
     let es : List Entry = whole c.args.store.now in
     let grow : RecordsGrow (record (kept_in c.self.inside.logs c.self.inside.decided.items c.self.inside.established.items) { established = established_in c.self.inside.logs c.self.inside.established.items ++ record { leader_id = c.args.leader_id; log = es } ∷ [] }) =
-    subst (λ (v : Records (List Entry)). RecordsGrow (record v { established = v.established ++ record { leader_id = c.args.leader_id; log = es } ∷ [] })) (sym c.self.view_is) c.requires.told in
+    subst (λ (v : Records (List Entry)). RecordsGrow (record v { established = v.established ++ record { leader_id = c.args.leader_id; log = es } ∷ [] })) (sym c.self.view_is) c.requires.grows in
     subst
     (λ (v : Records (List Entry)).
     OnOk c.push_record.result

@@ -7,13 +7,13 @@ use Rattle.raft_node.specs.Net.{Records}
 use Rattle.raft_node.specs.Safety.{RecordsGrow}
 use Rattle.raft_store.proofs.WholeLogs.{take_own}
 use Rattle.raft_node.proofs.Recorded.{decide_kept, decide_view}
-use Rattle.raft_node.proofs.record.RecordsRecorder.decide.Goals as goal
+use Rattle.raft_node.proofs.record.Records.decide.Goals as goal
 
 pub invariant_of-self : goal.invariant_of-self
 invariant_of-self c =
     let es : List Entry = whole_upto c.args.store.now c.args.log_id.index in
     let grow : RecordsGrow (record (kept_in c.self.inside.logs c.self.inside.decided.items c.self.inside.established.items) { decided = decided_in c.self.inside.logs c.self.inside.decided.items ++ record { leader_id = c.args.leader_id; log_id = c.args.log_id; log = es } ∷ [] }) =
-    subst (λ (v : Records (List Entry)). RecordsGrow (record v { decided = v.decided ++ record { leader_id = c.args.leader_id; log_id = c.args.log_id; log = es } ∷ [] })) (sym c.self.view_is) c.requires.told in
+    subst (λ (v : Records (List Entry)). RecordsGrow (record v { decided = v.decided ++ record { leader_id = c.args.leader_id; log_id = c.args.log_id; log = es } ∷ [] })) (sym c.self.view_is) c.requires.grows in
     decide_kept c.args.leader_id c.args.log_id es (whole c.args.store.now) c.whole_upto_len-log.result c.whole_upto_len-log.ensures
     (ap (λ (m : ℕ). take m (whole c.args.store.now)) c.whole_upto_len-log.ensures ∙ take_own (c.args.log_id.index + 1) (whole c.args.store.now))
     c.self.inside.logs c.push_record.new.logs c.self.inside.decided.items c.push_record.new.records.items c.self.inside.established.items c.self.invariant grow
@@ -23,7 +23,7 @@ pub returns : goal.returns
 returns c =
     let es : List Entry = whole_upto c.args.store.now c.args.log_id.index in
     let grow : RecordsGrow (record (kept_in c.self.inside.logs c.self.inside.decided.items c.self.inside.established.items) { decided = decided_in c.self.inside.logs c.self.inside.decided.items ++ record { leader_id = c.args.leader_id; log_id = c.args.log_id; log = es } ∷ [] }) =
-    subst (λ (v : Records (List Entry)). RecordsGrow (record v { decided = v.decided ++ record { leader_id = c.args.leader_id; log_id = c.args.log_id; log = es } ∷ [] })) (sym c.self.view_is) c.requires.told in
+    subst (λ (v : Records (List Entry)). RecordsGrow (record v { decided = v.decided ++ record { leader_id = c.args.leader_id; log_id = c.args.log_id; log = es } ∷ [] })) (sym c.self.view_is) c.requires.grows in
     subst
     (λ (v : Records (List Entry)).
     OnOk c.push_record.result
