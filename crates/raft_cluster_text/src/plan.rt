@@ -1,7 +1,7 @@
 //! What a text says.
 
 ghost use Rattle.std.specs.Prelude.{◌≡◌, IfOk};
-ghost use Rattle.raft_schedule.specs.Line.{begins, number, words};
+ghost use Rattle.raft_schedule.specs.Line.{begins, words};
 ghost use Rattle.raft_schedule.specs.Reading.{texts};
 
 use crate::error::TextError;
@@ -10,7 +10,7 @@ use raft_answers::Operation;
 use raft_cluster::Action;
 use raft_cluster::raft_core::Config;
 use raft_node::given::Given;
-use raft_schedule::schedule::{Language, parse_schedule};
+use raft_schedule::schedule::{Language, parse_number, parse_schedule};
 use raft_state::Items;
 use std::alloc::{AllocError, Global};
 
@@ -37,20 +37,6 @@ enum Line {
     Limit,
     Does(Action),
     Bad,
-}
-
-/// A decimal number without leading zeros that fits.
-pub(crate) fn parse_number(word: &str) -> Option<u64>
-    ensures { result ≡ number word.now }
-{
-    // `parse` takes a plus and leading zeros
-    if word.starts_with('+') {
-        return None;
-    }
-    if word.len() > 1 && word.starts_with('0') {
-        return None;
-    }
-    word.parse::<u64>().ok()
 }
 
 /// Whether a word begins a comment.

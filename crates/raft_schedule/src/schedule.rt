@@ -174,8 +174,8 @@ fn split_words(alloc: Global, language: Language, line: &str) -> Result<Vec<&str
     }
 }
 
-/// A decimal number without leading zeros that fits.
-fn parse_number(word: &str) -> Option<u64>
+/// A decimal number below 2^64, without a sign or leading zeros.
+pub fn parse_number(word: &str) -> Option<u64>
     ensures { result ≡ number word.now }
 {
     // `parse` takes a plus and leading zeros
