@@ -47,6 +47,9 @@
 //! their numbers, and what clients are told. At the end each server's disk, and a verdict on what clients were told, by that alone:
 //! `agree`; `disagree` with the least index at which two entries were executed; or an answer that isn't true.
 //!
+//! A text with a line that is wrong in its place isn't played. The first such line is named by its number, as that of a schedule is: the one
+//! behind the last, if that is all and there is no line `nodes`.
+//!
 //! # What is proved
 //!
 //! Unless a byte on a disk is changed by hand (`corrupt`), or a packet that no server sent is taken (`receive`), the verdict on a text is

@@ -10,7 +10,7 @@ use raft_answers::Operation;
 use raft_cluster::Action;
 use raft_cluster::raft_core::Config;
 use raft_node::given::Given;
-use raft_schedule::schedule::{Language, parse_number, parse_schedule};
+use raft_schedule::schedule::{Language, Schedule, parse_number, parse_schedule};
 use raft_state::Items;
 use std::alloc::{AllocError, Global};
 
@@ -252,7 +252,8 @@ fn read_limit(name: &str, number: &str, config: &mut Config) -> Line {
 fn read_line(alloc: Global, line: &str, config: &mut Config) -> Result<Line, TextError> {
     let words = split_words(alloc, line)?;
     match words.as_slice() {
-        [] | [""] => Ok(Line::Nothing),
+        [] => Ok(Line::Nothing),
+        [""] if line.is_empty() => Ok(Line::Nothing),
         ["language", "2"] => Ok(Line::Language),
         ["nodes" | "voters" | "learners" | "set", ..] => Ok(Line::Head),
         ["limit", name, number] => Ok(read_limit(name, number, config)),
@@ -263,41 +264,84 @@ fn read_line(alloc: Global, line: &str, config: &mut Config) -> Result<Line, Tex
     }
 }
 
-/// What a text says, or its first wrong line: the head of a schedule of the second language, then limits, then actions.
-pub fn read_plan(alloc: Global, text: &str) -> Result<Plan, TextError> {
-    let mut head = String::new(alloc);
-    let mut config = Config::usual();
-    let mut actions = Vec::new(alloc);
-    let mut body = u64::MAX;
-    let mut number = 0u64;
-    let mut has_begun = false;
-    for line in text.split('\n') {
-        number = number.saturating_add(1);
-        match read_line(alloc, line, &mut config)? {
-            Line::Nothing => {}
-            Line::Language if !has_begun => {
-                has_begun = true;
-                head.push_str(line)?;
-            }
-            Line::Head if has_begun && actions.is_empty() => head.push_str(line)?,
-            Line::Limit if has_begun && actions.is_empty() => {}
-            Line::Does(action) if has_begun => {
-                body = body.min(number);
-                actions.push(action)?;
-            }
-            _ => return Err(TextError::BadLine(number)),
+/// The lines read so far.
+#[derive(Drop)]
+struct Draft {
+    /// Whether `language 2` is there.
+    has_begun: bool,
+    /// As many lines: those of the head, empty ones and comments; for each limit a comment.
+    head: String,
+    config: Config,
+    body: u64,
+    actions: Vec<Action>,
+}
+
+impl Draft {
+    fn new(alloc: Global) -> Draft {
+        Draft {
+            has_begun: false,
+            head: String::new(alloc),
+            config: Config::usual(),
+            body: u64::MAX,
+            actions: Vec::new(alloc),
         }
-        head.push('\n')?;
     }
-    let schedule = parse_schedule(alloc, head.as_str())?;
+
+    /// What the head says, or its first wrong line. If no nodes are there, that is the line after those read so far.
+    fn read_head(&self, alloc: Global) -> Result<Schedule, TextError> {
+        Ok(parse_schedule(alloc, self.head.as_str())?)
+    }
+
+    /// Adds an action, which line `number` says. In front of the first one the head is whole.
+    fn add(&mut self, alloc: Global, number: u64, action: Action) -> Result<(), TextError> {
+        if self.actions.is_empty() {
+            self.read_head(alloc)?;
+            self.body = number;
+        }
+        Ok(self.actions.push(action)?)
+    }
+
+    /// Reads line `number`. If it is wrong in its place, the answer is the first wrong line, which may be one of the head.
+    fn take_line(&mut self, alloc: Global, number: u64, line: &str) -> Result<(), TextError> {
+        match read_line(alloc, line, &mut self.config)? {
+            Line::Nothing => self.head.push_str(line)?,
+            Line::Language if !self.has_begun => {
+                self.has_begun = true;
+                self.head.push_str(line)?;
+            }
+            Line::Head if self.has_begun && self.actions.is_empty() => self.head.push_str(line)?,
+            Line::Limit if self.has_begun && self.actions.is_empty() => self.head.push('#')?,
+            Line::Does(action) if self.has_begun => self.add(alloc, number, action)?,
+            _ => {
+                self.read_head(alloc)?;
+                return Err(TextError::BadLine(number));
+            }
+        }
+        Ok(())
+    }
+}
+
+/// What a text says, or its first wrong line: the head of a schedule of the second language, with limits, and then actions. In a text
+/// without nodes, and without a line that is wrong in its place, that is the line after the last one.
+pub fn read_plan(alloc: Global, text: &str) -> Result<Plan, TextError> {
+    let mut draft = Draft::new(alloc);
+    let mut number = 0u64;
+    for line in text.split('\n') {
+        if number > 0 {
+            draft.head.push('\n')?;
+        }
+        number = number.saturating_add(1);
+        draft.take_line(alloc, number, line)?;
+    }
+    let schedule = draft.read_head(alloc)?;
     Ok(Plan {
         given: Given {
             ids: Items::from_vec(schedule.nodes),
             membership: schedule.membership,
             settings: schedule.settings,
         },
-        config,
-        body,
-        actions,
+        config: draft.config,
+        body: draft.body,
+        actions: draft.actions,
     })
 }
