@@ -17,7 +17,6 @@ use raft_answers::{Operation, Token};
 use raft_node::given::Given;
 use raft_node::record::Executed;
 use raft_packed::Machine as StateMachine;
-use raft_packed_wire::raft_packed_node::PackedInstalled;
 use raft_state::Items;
 use raft_world::refusals_of_new;
 use std::alloc::{AllocError, Global};
@@ -106,7 +105,7 @@ fn release<M: StateMachine>(
     match output {
         Output::Send { to, bytes } => network.send(node, to, bytes),
         Output::Append { .. } => Ok(()),
-        Output::Install(snapshot) => Ok(told.installed.push(PackedInstalled { node, snapshot })?),
+        Output::Install(snapshot) => told.install(node, snapshot),
         Output::Execute(entry) => Ok(told.executed.push(Executed { node, entry })?),
         Output::Reply(reply) | Output::Read(reply) => told.answer(node, reply),
     }

@@ -36,4 +36,4 @@ pub use error::ClusterError;
 pub use laws::{clusters_follow, clusters_see_one_object};
 pub use machine::{Done, Machine};
 pub use network::{Network, Sent};
-pub use told::{Answered, Asked, Told, acknowledged};
+pub use told::{Answered, Asked, Installed, Told, acknowledged};

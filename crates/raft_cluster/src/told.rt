@@ -1,13 +1,12 @@
 //! What clients asked for, and what they were told.
 
-ghost use Rattle.std.specs.Prelude.{◌≡◌, ◌++◌, ◌∷◌, [], OnOk, true};
+ghost use Rattle.std.specs.Prelude.{◌≡◌, ◌++◌, ◌∷◌, [], OnOk, length, true};
 ghost use Rattle.raft_cluster.specs.Clients.{answers_told};
 ghost use Rattle.raft_cluster.specs.Clusters.{Notes, acknowledged_at};
 
 use raft_answers::{Answer, Operation, Reply, Token};
 use raft_node::record::Executed;
-use raft_packed::Machine as StateMachine;
-use raft_packed_wire::raft_packed_node::PackedInstalled;
+use raft_packed::{Machine as StateMachine, Packed};
 use std::alloc::{AllocError, Global};
 
 /// A client's request that a server took.
@@ -29,13 +28,23 @@ pub struct Answered {
     pub after: usize,
 }
 
+/// A snapshot that a server put in its state's place.
+#[derive(Drop)]
+pub struct Installed<M: StateMachine> {
+    pub node: u64,
+    pub snapshot: Packed<M>,
+    /// How many entries clients were told of before, as executed by some server, and how many answers.
+    pub executed: usize,
+    pub answered: usize,
+}
+
 /// What clients asked for, and what they were told, each in the order of the run.
 #[derive(Drop)]
 pub struct Told<M: StateMachine> {
     /// The entries that servers executed at their state machines.
     pub executed: Vec<Executed>,
     /// The snapshots that they put in their place.
-    pub installed: Vec<PackedInstalled<M>>,
+    pub installed: Vec<Installed<M>>,
     pub asked: Vec<Asked>,
     pub answered: Vec<Answered>,
 }
@@ -64,6 +73,29 @@ impl<M: StateMachine> Told<M> {
             asked: Vec::new(alloc),
             answered: Vec::new(alloc),
         }
+    }
+
+    /// A server has put a snapshot in its state's place.
+    pub fn install(&mut self, node: u64, snapshot: Packed<M>) -> Result<(), AllocError>
+        ensures rest { OnOk result (self.new ≡ record self.old { installed = self.new.installed }) }
+        ensures installed { OnOk result (self.new.installed.items
+            ≡ self.old.installed.items ++ record {
+              node = node;
+              snapshot = snapshot;
+              executed = length self.old.executed.items;
+              answered = length self.old.answered.items;
+            } ∷ []) }
+    {
+        let executed = self.executed.len();
+        let answered = self.answered.len();
+        Ok(
+            self.installed.push(Installed {
+                node,
+                snapshot,
+                executed,
+                answered,
+            })?,
+        )
     }
 
     /// A server took a request.

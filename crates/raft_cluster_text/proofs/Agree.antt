@@ -12,7 +12,7 @@ use Rattle.raft_wire.specs.Entries.{entry}
 use Rattle.raft_world.specs.declared.agreement.Agreement.{Agreement}
 use Rattle.raft_world.specs.declared.agreement.Agreement.TheVariants.{Agree, Differ}
 use Rattle.raft_world.specs.Agreed.{Checks, DiffersAt}
-use Rattle.proof_packed.specs.Nodes.{PackedInstalled}
+use Rattle.raft_cluster.specs.declared.told.Installed.{Installed as InstalledTold}
 use Rattle.proof_packed.specs.Stores.{Packed, packed}
 use Rattle.raft_cluster.specs.declared.cluster.Cluster.{Cluster}
 use Rattle.raft_cluster.specs.declared.told.Told.{Told}
@@ -33,9 +33,9 @@ states : (xs : List Installed) → map state_of (map (λ (x : Installed). packed
 states [] = refl
 states (x ∷ xs) = λ i. applied_is [] x.entries i ∷ states xs i
 
-told_states : (xs : List (PackedInstalled (List Entry)))
-    → map (λ (x : Installed). x.entries) (map (λ (x : PackedInstalled (List Entry)). let y : Installed = record { node = x.node; entries = x.snapshot.state } in y) xs)
-    ≡ map state_of (map (λ (x : PackedInstalled (List Entry)). x.snapshot) xs)
+told_states : (xs : List (InstalledTold (List Entry)))
+    → map (λ (x : Installed). x.entries) (map (λ (x : InstalledTold (List Entry)). let y : Installed = record { node = x.node; entries = x.snapshot.state } in y) xs)
+    ≡ map state_of (map (λ (x : InstalledTold (List Entry)). x.snapshot) xs)
 told_states [] = refl
 told_states (x ∷ xs) = ap (λ ys. x.snapshot.state ∷ ys) (told_states xs)
 

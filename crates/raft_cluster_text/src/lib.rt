@@ -44,8 +44,9 @@
 //! # What is printed
 //!
 //! A text that plays the same way: each line with what came of it behind a `#`, and in comments below it the frames that left then, with
-//! their numbers, and what clients are told. At the end each server's disk, and a verdict on what clients were told, by that alone:
-//! `agree`; `disagree` with the least index at which two entries were executed; or an answer that isn't true.
+//! their numbers, and what clients are told, in the order in which it happened (of a load nothing). At the end each server's disk, and a
+//! verdict on what clients were told, by that alone: `agree`; `disagree` with the least index at which two entries were executed; or an
+//! answer that isn't true.
 //!
 //! A text with a line that is wrong in its place isn't played. The first such line is named by its number, as that of a schedule is: the one
 //! behind the last, if that is all and there is no line `nodes`.

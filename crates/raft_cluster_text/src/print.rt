@@ -4,8 +4,7 @@
 use crate::entries::Entries;
 use crate::judge::Verdict;
 use raft_answers::{Answer, Token};
-use raft_cluster::raft_packed_node::PackedInstalled;
-use raft_cluster::{Action, Answered, Cluster, Comes, Machine, Sent, Told};
+use raft_cluster::{Action, Answered, Cluster, Comes, Installed, Machine, Sent, Told};
 use raft_node::record::Executed;
 use raft_state::Membership;
 use raft_store::Payload;
@@ -83,7 +82,7 @@ fn print_executed<W: Write>(executed: &Executed, out: &mut W) -> io::Result<()> 
     writeln!(out, "")
 }
 
-fn print_installed<W: Write>(installed: &PackedInstalled<Entries>, out: &mut W) -> io::Result<()> {
+fn print_installed<W: Write>(installed: &Installed<Entries>, out: &mut W) -> io::Result<()> {
     let node = installed.node;
     let count = installed.snapshot.end();
     writeln!(out, "# {node} installs {count} entries")
@@ -117,40 +116,66 @@ fn print_all_sent<W: Write>(
     Ok(())
 }
 
-/// Prints the answers behind the first ones that came before so many entries were executed: how many answers are printed then.
-fn print_answers<W: Write>(
-    told: &Told<Entries>,
-    printed: usize,
-    executed: usize,
-    out: &mut W,
-) -> io::Result<usize> {
-    let mut printed = printed;
-    for answered in behind(&told.answered, printed) {
-        if answered.after > executed {
-            break;
-        }
-        print_answered(answered, out)?;
-        printed = printed.saturating_add(1);
-    }
-    Ok(printed)
+/// What clients are told.
+#[derive(Clone, Copy)]
+enum News<'a> {
+    Executed(&'a Executed),
+    Installed(&'a Installed<Entries>),
+    Answered(&'a Answered),
 }
 
-/// Prints what clients are told since then: behind each entry that was executed the answers that it brought.
-fn print_all_told<W: Write>(
-    cluster: &Cluster<Entries>,
-    before: Counts,
-    out: &mut W,
-) -> io::Result<()> {
-    let told = cluster.told();
-    for installed in behind(&told.installed, before.installed) {
-        print_installed(installed, out)?;
+/// What clients were told next, behind so much of it.
+fn next_news(told: &Told<Entries>, counts: Counts) -> Option<News<'_>> {
+    if let Some(installed) = told.installed.get(counts.installed)
+        && installed.executed <= counts.executed
+        && installed.answered <= counts.answered
+    {
+        return Some(News::Installed(installed));
     }
-    let mut number = before.executed;
-    let mut printed = print_answers(told, before.answered, number, out)?;
-    for executed in behind(&told.executed, before.executed) {
-        print_executed(executed, out)?;
-        number = number.saturating_add(1);
-        printed = print_answers(told, printed, number, out)?;
+    if let Some(answered) = told.answered.get(counts.answered)
+        && answered.after <= counts.executed
+    {
+        return Some(News::Answered(answered));
+    }
+    let executed = told.executed.get(counts.executed)?;
+    Some(News::Executed(executed))
+}
+
+/// How much it is with the next.
+fn count_next(news: News<'_>, counts: Counts) -> Counts {
+    match news {
+        News::Executed(_) => Counts {
+            executed: counts.executed.saturating_add(1),
+            ..counts
+        },
+        News::Installed(_) => Counts {
+            installed: counts.installed.saturating_add(1),
+            ..counts
+        },
+        News::Answered(_) => Counts {
+            answered: counts.answered.saturating_add(1),
+            ..counts
+        },
+    }
+}
+
+fn print_news<W: Write>(news: News<'_>, out: &mut W) -> io::Result<()> {
+    match news {
+        News::Executed(executed) => print_executed(executed, out),
+        News::Installed(installed) => print_installed(installed, out),
+        News::Answered(answered) => print_answered(answered, out),
+    }
+}
+
+/// Prints what clients are told since then, in the order in which it happened.
+fn print_all_told<W: Write>(told: &Told<Entries>, before: Counts, out: &mut W) -> io::Result<()> {
+    let mut printed = before;
+    for _ in 0..u64::MAX {
+        let Some(news) = next_news(told, printed) else {
+            break;
+        };
+        print_news(news, out)?;
+        printed = count_next(news, printed);
     }
     Ok(())
 }
@@ -180,7 +205,7 @@ pub fn print_action<W: Write>(
     }
     match action {
         Action::Load { .. } => Ok(()),
-        _ => print_all_told(cluster, before, out),
+        _ => print_all_told(cluster.told(), before, out),
     }
 }
 
