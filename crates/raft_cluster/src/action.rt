@@ -76,7 +76,7 @@ pub enum Action {
     },
     /// All servers run for so many milliseconds.
     Run(u64),
-    /// So many writes of so many bytes come to a server, at most so many without an answer.
+    /// So many writes of so many bytes come to a server, at most so many without an answer. Their tokens are from `FIRST_LOAD_TOKEN` on.
     Load {
         id: u64,
         count: u64,

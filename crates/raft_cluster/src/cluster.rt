@@ -27,6 +27,9 @@ const STEP: u64 = 10;
 /// So often in a step frames are delivered, and records written and flushed.
 const ROUNDS: u64 = 4;
 
+/// Tokens from here on are those of writes that come as a load (`Action::Load`).
+pub const FIRST_LOAD_TOKEN: u64 = 1 << 63;
+
 /// Servers, their disks, all that ever left a server for others, and what clients asked for and were told.
 pub struct Cluster<M: StateMachine> {
     alloc: Global,
@@ -495,12 +498,17 @@ impl<M: StateMachine> Cluster<M> {
         Ok(())
     }
 
-    /// Requests come to a server until so many have no answer: how many came. `first` is the token of the first.
-    fn fill(&mut self, id: u64, first: u64, bytes: u64, limit: u64) -> Result<u64, AllocError>
+    /// The token of a load's next write: no other one has it, as long as clients take theirs from below.
+    fn load_token(&self) -> u64 {
+        FIRST_LOAD_TOKEN.saturating_add(self.told.asked.len() as u64)
+    }
+
+    /// So many requests come to a server, up to one that it refuses: how many came.
+    fn fill(&mut self, id: u64, bytes: u64, limit: u64) -> Result<u64, AllocError>
         ensures { OnOk result (Holds M.application M.codec self.old → Holds M.application M.codec self.new) }
     {
         'requests: for number in 0..limit {
-            let token = first.saturating_add(number);
+            let token = self.load_token();
             let value = value_of(self.alloc, token, bytes)?;
             match self.ask(id, Token(token), Operation::Write(value))? {
                 Comes::Done => {}
@@ -525,7 +533,7 @@ impl<M: StateMachine> Cluster<M> {
             let room = waiting
                 .saturating_sub(open)
                 .min(count.saturating_sub(asked));
-            asked = asked.saturating_add(self.fill(id, asked, bytes, room)?);
+            asked = asked.saturating_add(self.fill(id, bytes, room)?);
             self.settle()?;
             done = self.told.answered.len().saturating_sub(before) as u64;
         }

@@ -29,7 +29,7 @@ mod network;
 mod told;
 
 pub use action::{Action, value_of};
-pub use cluster::Cluster;
+pub use cluster::{Cluster, FIRST_LOAD_TOKEN};
 pub use comes::Comes;
 pub use dice::Dice;
 pub use error::ClusterError;

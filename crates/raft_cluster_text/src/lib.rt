@@ -7,7 +7,7 @@
 //! limits of the servers, if others than the usual ones are wanted: `limit NAME N` with `spread`, `heartbeat`, `patience`, `timeout`,
 //! `catch-up`, `log`, `value`, `waiting`, `requests`, `batch`, `frame`, `part`, `snapshot`, `unwritten` or `jump` (in milliseconds, entries,
 //! bytes or terms).
-//! Then lines of what happens:
+//! Then lines of what happens; a TOKEN is below 2^63 (each write of a load has its own one above):
 //!
 //! | Line | What happens |
 //! |--|--|

@@ -7,8 +7,8 @@ ghost use Rattle.raft_schedule.specs.Reading.{texts};
 use crate::error::TextError;
 use hex::FromHexError;
 use raft_answers::Operation;
-use raft_cluster::Action;
 use raft_cluster::raft_core::Config;
+use raft_cluster::{Action, FIRST_LOAD_TOKEN};
 use raft_node::given::Given;
 use raft_schedule::schedule::{Language, Schedule, parse_number, parse_schedule};
 use raft_state::Items;
@@ -37,6 +37,16 @@ enum Line {
     Limit,
     Does(Action),
     Bad,
+}
+
+/// A request's token: those above are of loads.
+fn parse_token(word: &str) -> Option<u64> {
+    let token = parse_number(word)?;
+    if token < FIRST_LOAD_TOKEN {
+        Some(token)
+    } else {
+        None
+    }
 }
 
 /// Whether a word begins a comment.
@@ -125,17 +135,20 @@ fn parse_one(name: &str, number: u64) -> Option<Action> {
     }
 }
 
-fn parse_two(name: &str, id: u64, second: u64) -> Option<Action> {
+fn parse_two(name: &str, id: u64, second: &str) -> Option<Action> {
     match name {
         "read" => Some(Action::Request {
             id,
-            token: second,
+            token: parse_token(second)?,
             operation: Operation::Read,
         }),
-        "ask" => Some(Action::Ask { id, token: second }),
+        "ask" => Some(Action::Ask {
+            id,
+            token: parse_token(second)?,
+        }),
         "corrupt" => Some(Action::Corrupt {
             id,
-            position: second,
+            position: parse_number(second)?,
         }),
         _ => None,
     }
@@ -162,7 +175,7 @@ fn parse_numbers(words: &[&str]) -> Option<Action> {
             waiting: parse_number(waiting)?,
         }),
         [name, id] => parse_one(name, parse_number(id)?),
-        [name, id, second] => parse_two(name, parse_number(id)?, parse_number(second)?),
+        [name, id, second] => parse_two(name, parse_number(id)?, second),
         _ => None,
     }
 }
@@ -176,7 +189,7 @@ fn parse_request(
 ) -> Result<Option<Action>, TextError> {
     match (
         parse_number(id),
-        parse_number(token),
+        parse_token(token),
         parse_value(alloc, value)?,
     ) {
         (Some(id), Some(token), Some(bytes)) => Ok(Some(Action::Request {
