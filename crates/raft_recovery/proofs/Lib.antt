@@ -7,6 +7,7 @@ pub mod Electing  -- which nodes can be elected
 pub mod Judging  -- what the judge looks at
 pub mod Planned  -- the nodes of a plan
 pub mod Trying  -- what is played behind a copy, and when nothing is found
+pub mod Skips  -- skipped events change nothing
 pub mod Gone  -- nodes that recover have gone on
 pub mod Recovering  -- nodes that go on by the plan recover
 pub mod Missing  -- where nodes can go on no premise lacks

@@ -1,7 +1,9 @@
 -- Worlds after events, and plans that go on from what the world is by then.
 use Rattle.std.proofs.Common.{ℕ, ◌+◌, ◌<◌, ◌≡◌, ◌∙◌, false, List, [], ◌∷◌, ◌++◌, append-nil, append_assoc, length, take, get_or, refl, ap, sym}
 use Rattle.std.proofs.lemmas.List.{map-append, take_more}
+use Rattle.std.proofs.lemmas.List.Elements.{filter-append}
 use Rattle.std.proofs.lemmas.List.Sums.{fold-append}
+use Rattle.std.specs.Prelude.{filter}
 use Rattle.raft_state.specs.declared.membership.Members.{Members}
 use Rattle.raft_command.specs.declared.config.EngineConfig.{EngineConfig}
 use Rattle.raft_store.specs.declared.entry.Entry.{Entry}
@@ -14,7 +16,7 @@ use Rattle.raft_node.specs.Runs.{History, events_of, run, whole_logs, with_event
 use Rattle.raft_world.specs.Worlds.{WorldView, events_in, new_world, run_in}
 use Rattle.proof_progress.specs.Continuations.{goes_on}
 use Rattle.proof_progress.proofs.CanElect.{goes_run}
-use Rattle.raft_recovery.specs.Recoveries.{GoesBy}
+use Rattle.raft_recovery.specs.Recoveries.{GoesBy, happened}
 use Rattle.raft_recovery.specs.Ways.{played}
 
 -- What a world is after events
@@ -47,7 +49,7 @@ played_then es fs w =
     ap (λ (t : History (List Entry)). let u : WorldView = record w { history = t } in u) (fold-append (with_event whole_logs w.given) w.history es fs)
 
 -- its events
-events_after : (given : Given) (es : List Event) (t : History (List Entry)) → events_of (run whole_logs given es t).past ≡ events_of t.past ++ es
+pub events_after : (given : Given) (es : List Event) (t : History (List Entry)) → events_of (run whole_logs given es t).past ≡ events_of t.past ++ es
 events_after given [] t = sym (append-nil (events_of t.past))
 events_after given (e ∷ es) t =
     events_after given es (with_event whole_logs given t e)
@@ -104,6 +106,22 @@ pub past_more : (a b c : WorldView) (ps : List AppliedEvent) (i : ℕ) (p : Appl
     → b ≡ played (events_of (take i ps)) a → c ≡ played (p.event ∷ []) b → c ≡ played (events_of (take (i + 1) ps)) a
 past_more a b c ps i p l is g h =
     one_more a b c (events_of (take i ps)) p.event g h ∙ ap (λ xs. played xs a) (sym (events_more ps i p l is))
+
+-- of a past those that weren't skipped
+pub happened_more : (a b c : WorldView) (ps : List AppliedEvent) (i : ℕ) (p : AppliedEvent) → i < length ps → p ≡ get_or ps i p
+    → b ≡ played (events_of (filter happened (take i ps))) a → c ≡ played (events_of (filter happened (p ∷ []))) b
+    → c ≡ played (events_of (filter happened (take (i + 1) ps))) a
+happened_more a b c ps i p l is g h =
+    h
+    ∙ (ap (played (events_of (filter happened (p ∷ [])))) g
+    ∙ (sym (played_then (events_of (filter happened (take i ps))) (events_of (filter happened (p ∷ []))) a)
+    ∙ ap (λ xs. played xs a) (sym more)))
+  where
+    more : events_of (filter happened (take (i + 1) ps)) ≡ events_of (filter happened (take i ps)) ++ events_of (filter happened (p ∷ []))
+    more =
+        ap (λ xs. events_of (filter happened xs)) (take_more ps i p l ∙ ap (λ x. take i ps ++ x ∷ []) (sym is))
+        ∙ (ap events_of (filter-append happened (take i ps) (p ∷ []))
+        ∙ map-append (λ (x : AppliedEvent). x.event) (filter happened (take i ps)) (filter happened (p ∷ [])))
 
 -- it is what its events make of the empty one
 pub anew_history : (w : WorldView) → (played (events_in w) (new_world w.given)).history ≡ run_in w

@@ -15,7 +15,7 @@ use Rattle.proof_progress.specs.Continuations.{goes_on}
 use Rattle.raft_recovery.specs.declared.recovery.Recovery.{Recovery}
 use Rattle.raft_recovery.specs.declared.starting.Found.{Found}
 use Rattle.raft_recovery.specs.Choosing.{can_be_elected, found_at}
-use Rattle.raft_recovery.specs.Recoveries.{GoesBy, GoesOn, GoesOnBy, Recovers}
+use Rattle.raft_recovery.specs.Recoveries.{GoesBy, GoesOn, RecoversBehind, Recovers}
 use Rattle.raft_recovery.specs.Ways.{RecoversBy, last_id_at, played, way_of}
 use Rattle.raft_recovery.proofs.Electing.{elected_by}
 use Rattle.raft_recovery.proofs.Played.{Plan, after, anew_history, played_events, played_given, played_goes, played_net, played_unspent}
@@ -63,7 +63,7 @@ behind w new es g =
 -- nodes recover by events that came behind a world
 pub goes_on_by : (w new : WorldView) (up : List ℕ) (value : Value) (r : Recovery) (es : List Event) → GoesBy w es new
     → r.events ≡ events_of (drop (length w.history.past) new.history.past)
-    → Recovers w.given w.history.net new.history.net up r.log_id value (length r.events) → GoesOnBy w up value r new
+    → Recovers w.given w.history.net new.history.net up r.log_id value (length r.events) → RecoversBehind w up value r new
 goes_on_by w new up value r es g is rec = record {
   goes = subst (λ xs. GoesBy w xs new) (sym (is ∙ behind w new es g)) g;
   recovers = rec;

@@ -1,5 +1,5 @@
 -- A way on from a world, as events, or what the world lacks that has none (Raft paper, sections 5.2 to 5.4).
-use Rattle.std.specs.Prelude.{ℕ, ◌≡◌, ◌≤◌, ◌++◌, false, true, List, [], ◌∷◌, Some, None, length, map, slice_get}
+use Rattle.std.specs.Prelude.{ℕ, ◌≡◌, ◌≤◌, ◌++◌, All, Bool, false, true, List, [], ◌∷◌, Some, None, drop, length, map, slice_get}
 use Rattle.std.specs.List.{AllByRecursion}
 use Rattle.std.specs.Ordering.{nat_cmp}
 use Rattle.raft_state.specs.declared.ids.LogId.{LogId}
@@ -8,7 +8,10 @@ use Rattle.raft_state.specs.Sorted.{IsSound}
 use Rattle.raft_progress.specs.Quorum.{is_quorum}
 use Rattle.raft_store.specs.declared.entry.Entry.{Entry}
 use Rattle.raft_store.specs.declared.entry.Value.{Value}
+use Rattle.raft_schedule.specs.declared.event.AppliedEvent.{AppliedEvent}
 use Rattle.raft_schedule.specs.declared.event.Event.{Event}
+use Rattle.raft_schedule.specs.declared.event.Outcome.{Outcome}
+use Rattle.raft_schedule.specs.declared.event.Outcome.TheVariants.{Skipped}
 use Rattle.raft_node.specs.declared.given.Given.{Given}
 use Rattle.raft_node.specs.Net.{Net, NodeView}
 use Rattle.raft_node.specs.Runs.{world_after}
@@ -64,10 +67,24 @@ pub record Recovers (given : Given) (before after : Net (List Entry)) (up : List
   pub each : AllByRecursion (HasExecutedAt after id value) (id.leader_id.node_id ∷ others)
   pub few : count ≤ most_of (greatest_term before.nodes) (length up) (length up) (log_then (found given node) 1)
 
--- a world goes on by these events, and recovers by them
+-- a world goes on by events that were tried, and recovers by them
+pub record RecoversBehind (old : WorldView) (up : List ℕ) (value : Value) (r : Recovery) (new : WorldView) : Type 0 where
+  pub goes : GoesBy old r.events new
+  pub recovers : Recovers old.given old.history.net new.history.net up r.log_id value (length r.events)
+
+-- an event happened: it wasn't skipped
+abbrev pub is_happened : Outcome → Bool
+is_happened (Skipped reason) = false
+is_happened _ = true
+
+abbrev pub happened : AppliedEvent → Bool
+happened p = is_happened p.outcome
+
+-- a world goes on by these events, of which none is skipped, and recovers by them
 pub record GoesOnBy (old : WorldView) (up : List ℕ) (value : Value) (r : Recovery) (new : WorldView) : Type 0 where
   pub goes : GoesBy old r.events new
   pub recovers : Recovers old.given old.history.net new.history.net up r.log_id value (length r.events)
+  pub happened : All (λ p. happened p ≡ true) (drop (length old.history.past) new.history.past)
 
 -- a node has no log
 abbrev pub LacksLog : Given → Net (List Entry) → ℕ → Type 0

@@ -1,19 +1,21 @@
 //! A way on from a world.
 
-ghost use Rattle.std.specs.Prelude.{ℕ, ◌≡◌, IfErr, IfOk, IfSome, None, OnOk, Some, drop, false, length};
+ghost use Rattle.std.specs.Prelude.{ℕ, ◌≡◌, IfErr, IfOk, IfSome, List, None, OnOk, Some, drop, false, length};
 ghost use Rattle.raft_state.specs.declared.ids.LogId.{LogId};
+ghost use Rattle.raft_store.specs.declared.entry.Value.{Value};
+ghost use Rattle.raft_schedule.specs.declared.event.Event.{Event};
 ghost use Rattle.raft_node.specs.Runs.{events_of};
 ghost use Rattle.raft_world.specs.Worlds.{IsWorldOfRun, run_in};
 ghost use Rattle.proof_progress.specs.Continuations.{goes_on};
 ghost use Rattle.proof_progress.specs.Elections.{Listed};
 ghost use Rattle.raft_recovery.specs.Choosing.{found_at};
-ghost use Rattle.raft_recovery.specs.Recoveries.{CanRecover, GoesBy, GoesOn, GoesOnBy, IsLimit, IsReason, Recovers};
+ghost use Rattle.raft_recovery.specs.Recoveries.{CanRecover, GoesBy, GoesOn, GoesOnBy, IsLimit, IsReason, Recovers, RecoversBehind};
 ghost use Rattle.raft_recovery.specs.Ways.{RecoversBy, last_id_at, way_of};
 
 use crate::error::{Failure, RecoveryError};
 use crate::judge::have_recovered;
 use crate::premises::{candidate_at, check_premises, explain, found_at};
-use crate::scratch::{copy_events, replay};
+use crate::scratch::{copy_events, replay, replay_happened};
 use crate::search::{go_on, last_id};
 use crate::starting::Found;
 use raft_state::{Items, LogId};
@@ -89,7 +91,7 @@ fn go_on_again(
     value: &Value,
 ) -> Result<Option<Recovery>, Failure>
     requires { GoesOn old.now new.old }
-    ensures { IfOk result (λ found. IfSome found (λ recovery. GoesOnBy old.now up.now value.now recovery new.new)) }
+    ensures { IfOk result (λ found. IfSome found (λ recovery. RecoversBehind old.now up.now value.now recovery new.new)) }
 {
     let Some(found) = found_at(new, id)? else {
         return Ok(None);
@@ -108,7 +110,7 @@ fn try_candidate(
     value: &Value,
 ) -> Result<Option<(Recovery, World)>, Failure>
     requires { found_at world.now.history.net.nodes id ≡ Some found.now }
-    ensures ok { IfOk result (λ tried. IfSome tried (λ found. GoesOnBy world.now up.now value.now found.0 found.1)) }
+    ensures ok { IfOk result (λ tried. IfSome tried (λ found. RecoversBehind world.now up.now value.now found.0 found.1)) }
     ensures none { IfOk result (λ tried. tried ≡ None
         → world.now.spent ≡ false → RecoversBy world.now.given world.now.history.net up.now value.now id → ⊥) }
 {
@@ -130,7 +132,7 @@ fn try_node(
     id: u64,
     value: &Value,
 ) -> Result<Option<(Recovery, World)>, Failure>
-    ensures ok { IfOk result (λ tried. IfSome tried (λ found. GoesOnBy world.now up.now value.now found.0 found.1)) }
+    ensures ok { IfOk result (λ tried. IfSome tried (λ found. RecoversBehind world.now up.now value.now found.0 found.1)) }
     ensures none { IfOk result (λ tried. tried ≡ None
         → world.now.spent ≡ false → RecoversBy world.now.given world.now.history.net up.now value.now id → ⊥) }
 {
@@ -147,7 +149,7 @@ fn find(
     up: &[u64],
     value: &Value,
 ) -> Result<Option<(Recovery, World)>, Failure>
-    ensures ok { IfOk result (λ tried. IfSome tried (λ found. GoesOnBy world.now up.now value.now found.0 found.1)) }
+    ensures ok { IfOk result (λ tried. IfSome tried (λ found. RecoversBehind world.now up.now value.now found.0 found.1)) }
     ensures none { IfOk result (λ tried. tried ≡ None → world.now.spent ≡ false
         → (n : ℕ) → Listed up.now n → RecoversBy world.now.given world.now.history.net up.now value.now n → ⊥) }
 {
@@ -157,6 +159,40 @@ fn find(
         }
     }
     Ok(None)
+}
+
+/// A way on that was tried, without the events that were skipped: these have changed nothing.
+fn without_skipped(
+    alloc: Global,
+    old: &World,
+    tried: &World,
+    log_id: LogId<u64>,
+) -> Result<(Recovery, World), Failure>
+    ensures { IfOk result (λ kept. (up : List ℕ) (value : Value) (es : List Event) → GoesBy old.now es tried.now
+        → Recovers old.now.given old.now.history.net tried.now.history.net up log_id value (length es)
+        → GoesOnBy old.now up value kept.0 kept.1) }
+{
+    let new = replay_happened(alloc, old, tried)?;
+    let events = copy_events(alloc, &new, old.events().len())?;
+    let events = Items::from_vec(events);
+    Ok((Recovery { log_id, events }, new))
+}
+
+/// A way on without events that are skipped, and the world after it, if nodes recover by that of one of them.
+fn find_happened(
+    alloc: Global,
+    world: &World,
+    up: &[u64],
+    value: &Value,
+) -> Result<Option<(Recovery, World)>, Failure>
+    ensures ok { IfOk result (λ found. IfSome found (λ kept. GoesOnBy world.now up.now value.now kept.0 kept.1)) }
+    ensures none { IfOk result (λ found. found ≡ None → world.now.spent ≡ false
+        → (n : ℕ) → Listed up.now n → RecoversBy world.now.given world.now.history.net up.now value.now n → ⊥) }
+{
+    match find(alloc, world, up, value)? {
+        None => Ok(None),
+        Some((tried, new)) => Ok(Some(without_skipped(alloc, world, &new, tried.log_id)?)),
+    }
 }
 
 /// Why nothing was found.
@@ -171,7 +207,7 @@ fn reason(world: &World, up: &[u64]) -> RecoveryError
 
 /// A way on from a world, whatever its votes, leases, messages and stopped nodes: these nodes make bare starts, as servers
 /// do; one of them is elected by timeouts and deliveries, and commits the value in a new entry. Then it, and each other member
-/// of its membership among these nodes, has executed the value. The events are played: the world goes on by them.
+/// of its membership among these nodes, has executed the value. The events are played: the world goes on by them. None is skipped.
 ///
 /// Refused, in this order, and the world is as it was:
 /// - `Repeated` if an id stands twice, `NoNode` if it is no node's,
@@ -198,7 +234,7 @@ pub fn recover(
     ensures found { IfErr result (λ error. CanRecover world.old up.now → IsLimit error) }
 {
     check_premises(alloc, world, up)?;
-    match find(alloc, world, up, value)? {
+    match find_happened(alloc, world, up, value)? {
         Some((recovery, new)) => {
             *world = new;
             Ok(recovery)

@@ -1,12 +1,13 @@
 //! Copies of a world, on which events are tried.
 
-ghost use Rattle.std.specs.Prelude.{◌≡◌, ◌∷◌, [], IfOk, OnOk, drop};
+ghost use Rattle.std.specs.Prelude.{◌≡◌, ◌∷◌, [], IfOk, OnOk, drop, filter, length};
 ghost use Rattle.raft_node.specs.Runs.{events_of};
 ghost use Rattle.raft_world.specs.Worlds.{IsWorldOfRun, events_in, new_world};
+ghost use Rattle.raft_recovery.specs.Recoveries.{happened, is_happened};
 ghost use Rattle.raft_recovery.specs.Ways.{played};
 
 use crate::error::Failure;
-use raft_world::{AppliedEvent, Event, World};
+use raft_world::{AppliedEvent, Event, Outcome, World};
 use std::alloc::Global;
 
 /// The empty world over a world's nodes.
@@ -42,6 +43,51 @@ fn play_past(alloc: Global, world: &mut World, past: &[AppliedEvent]) -> Result<
         play_copy(alloc, world, &applied.event)?;
     }
     Ok(())
+}
+
+/// Whether an event that came to this wasn't skipped.
+fn is_happened(outcome: &Outcome) -> bool
+    ensures { result ≡ is_happened outcome.now }
+{
+    match outcome {
+        Outcome::Skipped(_) => false,
+        _ => true,
+    }
+}
+
+/// Plays a copy of an event that wasn't skipped when it was played before.
+fn play_happened(alloc: Global, world: &mut World, applied: &AppliedEvent) -> Result<(), Failure>
+    ensures { OnOk result (world.new ≡ played (events_of (filter happened (applied.now ∷ []))) world.old) }
+{
+    if is_happened(&applied.outcome) {
+        play_copy(alloc, world, &applied.event)
+    } else {
+        Ok(())
+    }
+}
+
+/// Plays those events of a past that weren't skipped in it.
+fn play_all_happened(alloc: Global, world: &mut World, past: &[AppliedEvent]) -> Result<(), Failure>
+    ensures { OnOk result (world.new ≡ played (events_of (filter happened past.now)) world.old) }
+{
+    for applied in past {
+        play_happened(alloc, world, applied)?;
+    }
+    Ok(())
+}
+
+/// A world's past, played anew, and behind it those events that came behind it in another world and weren't skipped there.
+pub(crate) fn replay_happened(alloc: Global, old: &World, tried: &World) -> Result<World, Failure>
+    ensures new { IfOk result (λ new. new
+        ≡ played (events_of (filter happened (drop (length old.now.history.past) tried.now.history.past)))
+        (played (events_in old.now) (new_world tried.now.given))) }
+    ensures run { OnOk result (IsWorldOfRun tried.now) }
+{
+    let mut new = empty_world(alloc, tried)?;
+    play_past(alloc, &mut new, old.events())?;
+    let tail = tried.events().get(old.events().len()..).unwrap_or(&[]);
+    play_all_happened(alloc, &mut new, tail)?;
+    Ok(new)
 }
 
 /// A world's past, played anew.

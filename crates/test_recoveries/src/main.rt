@@ -9,7 +9,7 @@ use std::io::Write;
 use test_cases::{Player, run};
 
 /// What a text asks for: behind the schedule a line `recover V N ..`, with the ids of the nodes or with none for all of them,
-/// and behind that line what is expected of the nodes then.
+/// and behind that line what is expected then.
 #[derive(Drop)]
 struct Task<'a> {
     schedule: &'a str,
@@ -35,12 +35,39 @@ fn parse_task(alloc: Global, text: &str) -> Result<Task<'_>> {
     })
 }
 
+/// The number of the event that a line of a report is of.
+fn number_of(line: &str) -> Option<u64> {
+    line.split(" ").next()?.parse::<u64>().ok()
+}
+
+/// How many events a report has.
+fn count_events(report: &str) -> u64 {
+    let mut count = 0u64;
+    for line in report.lines() {
+        if let Some(number) = number_of(line) {
+            count = number;
+        }
+    }
+    count
+}
+
+/// Writes those lines of a report that are skipped events, and not of the report before.
+fn tell_skipped(before: &str, after: &str, given: &mut Vec<u8>) -> Result<()> {
+    let count = count_events(before);
+    for line in after.lines() {
+        if number_of(line) > Some(count) && line.contains(" skipped ") {
+            writeln!(given, "{line}")?;
+        }
+    }
+    Ok(())
+}
+
 /// Recovers as `raftsim --recover` does.
 struct Recovering;
 
 impl Player for Recovering {
     /// Writes the exit status and what is told: of the search, or if there is a way on, of the schedule, the way on and the
-    /// expectations.
+    /// expectations; and then the events of the way on that were skipped.
     fn play(&self, alloc: Global, text: &[u8], given: &mut Vec<u8>) -> Result<()> {
         let task = parse_task(alloc, str::from_utf8(text)?)?;
         let (schedule, mut found, mut told) = (task.schedule, Vec::new(alloc), Vec::new(alloc));
@@ -52,16 +79,17 @@ impl Player for Recovering {
             &mut found,
             &mut told,
         );
+        let (mut before, mut after) = (Vec::new(alloc), Vec::new(alloc));
         if status == 0 {
+            simulate(alloc, schedule.as_bytes(), &mut before, &mut told);
             let mut whole = Vec::from_slice(alloc, schedule.as_bytes())?;
             whole.extend_from_slice(&found)?;
             whole.extend_from_slice(task.expected.as_bytes())?;
-            let mut report = Vec::new(alloc);
-            status = simulate(alloc, whole.as_slice(), &mut report, &mut told);
+            status = simulate(alloc, whole.as_slice(), &mut after, &mut told);
         }
         writeln!(given, "status {status}")?;
         given.extend_from_slice(&told)?;
-        Ok(())
+        tell_skipped(str::from_utf8(&before)?, str::from_utf8(&after)?, given)
     }
 }
 
