@@ -13,3 +13,4 @@ pub mod Recovering  -- nodes that go on by the plan recover
 pub mod Missing  -- where nodes can go on no premise lacks
 pub mod Simulations  -- what a simulation writes and answers
 pub mod Texts  -- the texts of errors
+pub mod Tasks  -- what is answered for words

@@ -146,32 +146,34 @@ module _ (given : Given) where
   -- make the same world, and nothing else comes of them
   others_go : (es : List Event) (net : Net (List Entry)) → goes_on given (others es net) net ≡ goes_on given es net
   others_go [] net = refl
-  others_go (e ∷ es) net = go (is_happened (applied e net).outcome) refl
+  others_go (e ∷ es) net = go (is_happened (applied e net).outcome) refl (others_go es (net_by e net))
     where
       rest : List AppliedEvent
       rest = past_of es (net_by e net)
 
       go : (b : Bool) → is_happened (applied e net).outcome ≡ b
+          → goes_on given (others es (net_by e net)) (net_by e net) ≡ goes_on given es (net_by e net)
           → goes_on given (events_of (if b then applied e net ∷ filter happened rest else filter happened rest)) net ≡ goes_on given es (net_by e net)
-      go true h = others_go es (net_by e net)
-      go false h =
+      go true h more = more
+      go false h more =
           let still : net_by e net ≡ net = skipped_stays given e net h in
-          ap (goes_on given (others es (net_by e net))) (sym still) ∙ others_go es (net_by e net)
+          ap (goes_on given (others es (net_by e net))) (sym still) ∙ more
 
   others_past : (es : List Event) (net : Net (List Entry)) → past_of (others es net) net ≡ filter happened (past_of es net)
   others_past [] net = refl
-  others_past (e ∷ es) net = go (is_happened (applied e net).outcome) refl
+  others_past (e ∷ es) net = go (is_happened (applied e net).outcome) refl (others_past es (net_by e net))
     where
       rest : List AppliedEvent
       rest = past_of es (net_by e net)
 
       go : (b : Bool) → is_happened (applied e net).outcome ≡ b
+          → past_of (others es (net_by e net)) (net_by e net) ≡ filter happened rest
           → past_of (events_of (if b then applied e net ∷ filter happened rest else filter happened rest)) net
           ≡ (if b then applied e net ∷ filter happened rest else filter happened rest)
-      go true h = ap (λ ps. applied e net ∷ ps) (others_past es (net_by e net))
-      go false h =
+      go true h more = ap (λ ps. applied e net ∷ ps) more
+      go false h more =
           let still : net_by e net ≡ net = skipped_stays given e net h in
-          ap (past_of (others es (net_by e net))) (sym still) ∙ others_past es (net_by e net)
+          ap (past_of (others es (net_by e net))) (sym still) ∙ more
 
   others_few : (es : List Event) (net : Net (List Entry)) → length (others es net) ≤ length es
   others_few es net =

@@ -4,3 +4,4 @@ pub mod Simulated  -- what a simulation that recovers answers and writes
 pub mod Starting  -- what a store gives to a bare start
 pub mod Told  -- why nodes don't go on, as text
 pub mod Ways  -- the ways on that the program tries
+pub mod Tasks  -- what the words of a command line ask for

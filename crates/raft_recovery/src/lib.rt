@@ -12,7 +12,9 @@ mod scratch;
 mod search;
 mod simulation;
 mod starting;
+mod words;
 
 pub use error::{Failure, RecoveryError};
 pub use recovery::{Recovery, recover};
 pub use simulation::{simulate_recovery, simulate_recovery_into};
+pub use words::simulate_words;

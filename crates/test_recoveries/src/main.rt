@@ -2,8 +2,8 @@
 #![tactic(auto)]
 
 use anyhow::{Context, Result};
-use raft_recovery::simulate_recovery;
-use raft_world::{Value, simulate};
+use raft_recovery::simulate_words;
+use raft_world::simulate;
 use std::alloc::Global;
 use std::io::Write;
 use test_cases::{Player, run};
@@ -13,24 +13,20 @@ use test_cases::{Player, run};
 #[derive(Drop)]
 struct Task<'a> {
     schedule: &'a str,
-    value: Value,
-    up: Vec<u64>,
+    words: Vec<String>,
     expected: &'a str,
 }
 
 fn parse_task(alloc: Global, text: &str) -> Result<Task<'_>> {
     let (schedule, rest) = text.split_once("recover ").context("no line recover")?;
     let (line, expected) = rest.split_once("\n").context("no line's end")?;
-    let mut words = line.split(" ");
-    let value = words.next().context("no value")?.parse::<u64>()?;
-    let mut up = Vec::new(alloc);
-    for word in words {
-        up.push(word.parse::<u64>()?)?;
+    let mut words = Vec::new(alloc);
+    for word in line.split(" ") {
+        words.push(String::from_str(alloc, word)?)?;
     }
     Ok(Task {
         schedule,
-        value: Value::Number(value),
-        up,
+        words,
         expected,
     })
 }
@@ -62,7 +58,7 @@ fn tell_skipped(before: &str, after: &str, given: &mut Vec<u8>) -> Result<()> {
     Ok(())
 }
 
-/// Recovers as `raftsim --recover` does.
+/// Recovers as `raftrecover` does.
 struct Recovering;
 
 impl Player for Recovering {
@@ -71,10 +67,9 @@ impl Player for Recovering {
     fn play(&self, alloc: Global, text: &[u8], given: &mut Vec<u8>) -> Result<()> {
         let task = parse_task(alloc, str::from_utf8(text)?)?;
         let (schedule, mut found, mut told) = (task.schedule, Vec::new(alloc), Vec::new(alloc));
-        let mut status = simulate_recovery(
+        let mut status = simulate_words(
             alloc,
-            &task.up,
-            &task.value,
+            &task.words,
             schedule.as_bytes(),
             &mut found,
             &mut told,
