@@ -8,8 +8,9 @@ use std::{env, fs};
 
 /// What plays the texts of cases.
 pub trait Player {
-    /// Plays a text, and writes what comes of it. An `Err` is a text that can't be played.
-    fn play(&self, alloc: Global, text: &[u8], given: &mut Vec<u8>) -> Result<()>;
+    /// Plays a text of a kind, which is empty if its file names none, and writes what comes of it. An `Err` is a text
+    /// that can't be played.
+    fn play(&self, alloc: Global, kind: &str, text: &[u8], given: &mut Vec<u8>) -> Result<()>;
 }
 
 /// How many cases were met, and how many were not.
@@ -54,7 +55,7 @@ fn judge(
     let mut given = Vec::new(alloc);
     let name = case.name.as_str();
     player
-        .play(alloc, &case.text, &mut given)
+        .play(alloc, &case.kind, &case.text, &mut given)
         .context(format_args!("case {name}"))?;
     tell(rt, case, &given, tally)
 }
@@ -68,7 +69,7 @@ fn take_line(
     line: &str,
     tally: &mut Tally,
 ) -> Result<()> {
-    draft.take_line(alloc, line)?;
+    draft.take_line(line)?;
     match draft.complete() {
         Some(case) => judge(rt, alloc, player, case, tally),
         None => Ok(()),

@@ -3,23 +3,24 @@
 ghost use Rattle.std.specs.Prelude.{◌≡◌, ◌↔◌, IsTrue};
 
 use anyhow::{Result, bail};
-use std::alloc::{AllocError, Global};
+use std::alloc::Global;
 
-/// A text, and what playing it must give.
-#[derive(Debug, Drop)]
+/// A text of a kind, and what playing it must give.
+#[derive(Drop)]
 pub struct Case {
+    pub kind: String,
     pub name: String,
     pub text: Vec<u8>,
     pub expected: Vec<u8>,
 }
 
 impl Case {
-    fn new(alloc: Global, name: &str) -> Result<Self, AllocError> {
-        Ok(Case {
-            name: String::from_str(alloc, name)?,
-            text: Vec::new(alloc),
-            expected: Vec::new(alloc),
-        })
+    /// Begins anew, with another name.
+    fn rename(&mut self, name: &str) -> Result<()> {
+        self.name.clear();
+        self.text.clear();
+        self.expected.clear();
+        Ok(self.name.push_str(name)?)
     }
 
     /// Whether playing the text gave what it must.
@@ -31,7 +32,7 @@ impl Case {
 }
 
 /// What the next line of a file belongs to.
-#[derive(Clone, Copy, PartialEq, Eq, Debug)]
+#[derive(Clone, Copy, PartialEq, Eq)]
 enum Part {
     /// No case.
     Outside,
@@ -49,11 +50,9 @@ pub struct Draft {
     case: Case,
 }
 
-/// Appends the bytes of a piece of a line after a `\`, which begins with `x` and two hexadecimal digits.
+/// Appends the bytes of a piece of a text, which begins with two hexadecimal digits, maybe after an `x`.
 fn push_escaped(piece: &str, text: &mut Vec<u8>) -> Result<()> {
-    let Some(hex) = piece.strip_prefix('x') else {
-        bail!("no escape: {piece}");
-    };
+    let hex = piece.strip_prefix('x').unwrap_or(piece);
     let Some((digits, rest)) = hex.split_at_checked(2) else {
         bail!("no byte: {piece}");
     };
@@ -62,10 +61,10 @@ fn push_escaped(piece: &str, text: &mut Vec<u8>) -> Result<()> {
     Ok(())
 }
 
-/// Appends the bytes of a line, without a line feed.
-fn push_pieces(line: &str, text: &mut Vec<u8>) -> Result<()> {
+/// Appends the bytes of a text, in which a sign and two hexadecimal digits stand for a byte.
+pub fn unescape(line: &str, sign: char, text: &mut Vec<u8>) -> Result<()> {
     let mut is_plain = true;
-    for piece in line.split('\\') {
+    for piece in line.split(sign) {
         if is_plain {
             text.extend_from_slice(piece.as_bytes())?;
         } else {
@@ -79,9 +78,9 @@ fn push_pieces(line: &str, text: &mut Vec<u8>) -> Result<()> {
 /// Appends the bytes that a line of a text stands for.
 fn push_line(line: &str, text: &mut Vec<u8>) -> Result<()> {
     if let Some(line) = line.strip_suffix('\\') {
-        return push_pieces(line, text);
+        return unescape(line, '\\', text);
     }
-    push_pieces(line, text)?;
+    unescape(line, '\\', text)?;
     text.push(b'\n')?;
     Ok(())
 }
@@ -91,6 +90,7 @@ impl Draft {
         Draft {
             part: Part::Outside,
             case: Case {
+                kind: String::new(alloc),
                 name: String::new(alloc),
                 text: Vec::new(alloc),
                 expected: Vec::new(alloc),
@@ -111,16 +111,24 @@ impl Draft {
         self.part == Part::Outside || self.part == Part::Complete
     }
 
-    fn begin(&mut self, alloc: Global, line: &str) -> Result<()> {
+    /// A line outside of cases.
+    fn begin(&mut self, line: &str) -> Result<()> {
+        self.part = Part::Outside;
         if line.is_empty() || line.starts_with('#') {
             return Ok(());
         }
-        let Some(name) = line.strip_prefix("case ") else {
-            bail!("no case begins here: {line}");
-        };
-        self.case = Case::new(alloc, name)?;
-        self.part = Part::Source;
-        Ok(())
+        let case = &mut self.case;
+        match line.split_once(' ') {
+            Some(("kind", kind)) => {
+                case.kind.clear();
+                Ok(case.kind.push_str(kind)?)
+            }
+            Some(("case", name)) => {
+                self.part = Part::Source;
+                case.rename(name)
+            }
+            _ => bail!("no case begins here: {line}"),
+        }
     }
 
     fn take_source(&mut self, line: &str) -> Result<()> {
@@ -150,12 +158,9 @@ impl Draft {
     }
 
     /// Takes the next line of a file, of which the end counts as an empty line.
-    pub fn take_line(&mut self, alloc: Global, line: &str) -> Result<()> {
+    pub fn take_line(&mut self, line: &str) -> Result<()> {
         match self.part {
-            Part::Outside | Part::Complete => {
-                self.part = Part::Outside;
-                self.begin(alloc, line)
-            }
+            Part::Outside | Part::Complete => self.begin(line),
             Part::Source => self.take_source(line),
             Part::Text => self.take_text(line),
             Part::Expected => self.take_expected(line),

@@ -32,7 +32,7 @@ fn play_all(alloc: Global, desk: &mut Desk, text: &str, given: &mut Vec<u8>) -> 
 struct Requests;
 
 impl Player for Requests {
-    fn play(&self, alloc: Global, text: &[u8], given: &mut Vec<u8>) -> Result<()> {
+    fn play(&self, alloc: Global, _kind: &str, text: &[u8], given: &mut Vec<u8>) -> Result<()> {
         play_all(alloc, &mut Desk::new(alloc)?, str::from_utf8(text)?, given)
     }
 }

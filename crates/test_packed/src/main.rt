@@ -22,7 +22,7 @@ fn play(alloc: Global, text: &str, given: &mut Vec<u8>) -> Result<()> {
 }
 
 impl Player for Packs {
-    fn play(&self, alloc: Global, text: &[u8], given: &mut Vec<u8>) -> Result<()> {
+    fn play(&self, alloc: Global, _kind: &str, text: &[u8], given: &mut Vec<u8>) -> Result<()> {
         play(alloc, str::from_utf8(text)?, given)
     }
 }

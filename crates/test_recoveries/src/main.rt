@@ -64,7 +64,7 @@ struct Recovering;
 impl Player for Recovering {
     /// Writes the exit status and what is told: of the search, or if there is a way on, of the schedule, the way on and the
     /// expectations; and then the events of the way on that were skipped.
-    fn play(&self, alloc: Global, text: &[u8], given: &mut Vec<u8>) -> Result<()> {
+    fn play(&self, alloc: Global, _kind: &str, text: &[u8], given: &mut Vec<u8>) -> Result<()> {
         let task = parse_task(alloc, str::from_utf8(text)?)?;
         let (schedule, mut found, mut told) = (task.schedule, Vec::new(alloc), Vec::new(alloc));
         let mut status = simulate_words(

@@ -12,7 +12,7 @@ use test_cases::{Player, run};
 struct Connections;
 
 impl Player for Connections {
-    fn play(&self, alloc: Global, text: &[u8], given: &mut Vec<u8>) -> Result<()> {
+    fn play(&self, alloc: Global, _kind: &str, text: &[u8], given: &mut Vec<u8>) -> Result<()> {
         lines::play(alloc, str::from_utf8(text)?, given)
     }
 }

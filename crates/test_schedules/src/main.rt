@@ -12,7 +12,7 @@ struct Simulation;
 
 impl Player for Simulation {
     /// Writes the report of a schedule, and after it the exit status and what is told, unless it is a report alone.
-    fn play(&self, alloc: Global, text: &[u8], given: &mut Vec<u8>) -> Result<()> {
+    fn play(&self, alloc: Global, _kind: &str, text: &[u8], given: &mut Vec<u8>) -> Result<()> {
         let mut told = Vec::new(alloc);
         let status = simulate(alloc, text, &mut *given, &mut told);
         if status != 0 || !told.is_empty() {

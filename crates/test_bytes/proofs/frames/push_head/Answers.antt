@@ -2,7 +2,7 @@ use Rattle.std.proofs.Common.{ℕ, ◌++◌, ◌∙◌, ap, length, sym}
 use Rattle.raft_frames.specs.Crc.{crc32c}
 use Rattle.raft_frames.specs.Format.{word}
 use Rattle.raft_frames.proofs.Sums.{sum_joined}
-use Rattle.test_frames.proofs.lines.push_head.Goals as goal
+use Rattle.test_bytes.proofs.frames.push_head.Goals as goal
 
 pub push_head-requires : goal.push_head-requires
 push_head-requires c =
