@@ -119,7 +119,7 @@ impl Keyspace {
         self.table.get(key)
     }
 
-    /// Stores something at a key. Out of memory, nothing changes.
+    /// Stores something at a key.
     pub fn put(&mut self, alloc: Global, key: Items<u8>, stored: Stored) -> Result<(), AllocError>
         ensures { OnOk result (self.new ≡ with self.old (Put key stored ∷ [])) }
     {
@@ -132,7 +132,7 @@ impl Keyspace {
         Ok(())
     }
 
-    /// Deletes a key, if it exists. Out of memory, nothing changes.
+    /// Deletes a key, if it exists.
     pub fn delete(&mut self, alloc: Global, key: Items<u8>) -> Result<(), AllocError>
         ensures { OnOk result (self.new ≡ (if map.contains_key (keys self.old) key then with self.old (Delete key ∷ []) else self.old)) }
     {
@@ -148,9 +148,7 @@ impl Keyspace {
         Ok(())
     }
 
-    /// Makes what is pending a revision, if anything is.
-    ///
-    /// Out of memory nothing changes, nor once there are 2^64 - 1 revisions.
+    /// Makes what is pending a revision, if anything is. Refused as memory that runs out, once there are 2^64 - 1 revisions.
     pub fn close(&mut self, alloc: Global) -> Result<(), AllocError>
         ensures { OnOk result (self.new ≡ closed self.old) }
     {

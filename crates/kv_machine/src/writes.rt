@@ -98,7 +98,7 @@ fn prev_kv(
     }
 }
 
-/// Put. What was stored at the key, if that is asked for. Out of memory, nothing changes.
+/// Put. What was stored at the key, if that is asked for.
 #[tactic(auto, unfolding(crate::specs::Writes::put))]
 pub fn put(
     keyspace: &mut Keyspace,
