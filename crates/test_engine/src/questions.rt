@@ -1,6 +1,6 @@
 //! Questions to an engine: `show` and one of these words, or several but `command` and `sent`.
 //!
-//! - what `test_words` shows of a state: `vote`, `last`, `committed`, `members`, ..
+//! - what `show` has of a state: `vote`, `last`, `committed`, `members`, ..
 //! - `plays`: the role that vote and membership give
 //! - `leads`, `asks`: whether there is a leader, a candidate; `candidate`: its text
 //! - `greater`: whether a log greater than its own was seen

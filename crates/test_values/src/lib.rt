@@ -1,4 +1,4 @@
-//! What the cases of `test_value_cases` can't say of values: quorum sets of another type, and the end of numbers.
+//! What the cases of `test_engine` can't say of values: quorum sets of another type, and the end of numbers.
 #![tactic(auto)]
 
 #[cfg(test)]
