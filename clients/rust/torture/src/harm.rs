@@ -234,12 +234,18 @@ fn is_admitted(cluster: &mut Cluster, id: u64) -> io::Result<bool> {
 }
 
 /// Starts a node on a copy from before its last start, in its place or beside it; once the copy has ended by that, all is as before.
-fn run_on_copy(cluster: &mut Cluster, harm: Harm, id: u64, came: &mut Came) -> io::Result<()> {
+fn run_on_copy(cluster: &mut Cluster, harm: Harm, id: u64, random: &mut Random, came: &mut Came) -> io::Result<()> {
     let (folder, old) = (cluster.folder(id), cluster.folder(id).with_extension("old"));
     let ran = cluster.is_running(id);
     cluster.kill(id)?;
     copy(&folder, &old)?;
     came.is_done = is_admitted(cluster, id)?;
+    // others may have been started since, too
+    let other = 1 + (id + random.below(cluster.ids.len() as u64 - 1)) % cluster.ids.len() as u64;
+    if came.is_done && random.below(2) == 0 && cluster.is_running(other) {
+        cluster.kill(other)?;
+        came.is_done = is_admitted(cluster, other)?;
+    }
     if came.is_done && harm == Harm::Copy {
         let kept = folder.with_extension("kept");
         cluster.kill(id)?;
@@ -279,7 +285,7 @@ pub fn suffer(cluster: &mut Cluster, harm: Harm, id: u64, random: &mut Random) -
         others: Vec::new(),
     };
     if matches!(harm, Harm::Copy | Harm::Second) && cluster.folder(id).join("identity").exists() {
-        run_on_copy(cluster, harm, id, &mut came)?;
+        run_on_copy(cluster, harm, id, random, &mut came)?;
         return Ok(came);
     }
     let (folder, kept) = (cluster.folder(id), cluster.folder(id).with_extension("kept"));

@@ -87,7 +87,7 @@ impl Sockets {
             written.iter().for_each(|it| desk.notes.note(it.note.clone()));
         }
         for Wanted { slot, since, note } in written {
-            if !self.slots[slot].as_ref().is_some_and(|it| it.since == since) {
+            if self.slots[slot].as_ref().is_none_or(|it| it.since != since) {
                 continue;
             }
             let went_on = match &result {
