@@ -42,7 +42,7 @@ called (Some _) e m = e
 abbrev pub own_grant : Vote ℕ → VoteResponse ℕ
 own_grant v = record { vote = v; vote_granted = true; last_log_id = None }
 
--- the candidate's vote is this one, and its members have the node
+-- the candidate's vote is this one, and its voters have the node
 abbrev pub asks_itself : Vote ℕ → WorldCandidate → EngineView → Bool
 asks_itself v c e = is_eq (vote_cmp nat_cmp c.vote v) && is_in nat_cmp c.progress e.config.id
 

@@ -48,7 +48,7 @@ pub fn feed_of(command: &Command<WorldConfig>) -> Feed
     }
 }
 
-/// Whether the candidate's vote is this one, and its members have the node.
+/// Whether the candidate's vote is this one, and its voters have the node.
 fn asks_itself(vote: &Vote<u64>, engine: &Engine<WorldConfig>) -> bool
     ensures { result ≡ elim engine.now.candidate [ None ↦ false | Some c ↦ asks_itself vote.now c (view_of engine.now) ] }
 {

@@ -247,7 +247,7 @@ impl<C: RaftTypeConfig> Engine<C> {
     ///
     /// Refusals, in this order:
     /// - `Spent` after `OutOfMemory`,
-    /// - `UnknownTarget` if a grant isn't from a voter or learner of the candidate's membership,
+    /// - `UnknownTarget` if a grant isn't from a voter of the candidate's membership,
     /// - `IndexEnd` if the no-op entry would get the greatest index.
     ///
     /// Allocates nothing without a candidate. Source: openraft's `handle_vote_resp`; Raft paper, section 5.2.
@@ -568,7 +568,7 @@ fn take_rejection<C: RaftTypeConfig>(
     Ok(())
 }
 
-/// Checks a grant: `UnknownTarget` if it isn't from a member; `IndexEnd` if it completes a quorum and no index is left
+/// Checks a grant: `UnknownTarget` if it isn't from a voter; `IndexEnd` if it completes a quorum and no index is left
 /// for the no-op entry.
 fn check_grant<C: RaftTypeConfig>(
     state: &RaftState<C::NodeId, C::Node>,
