@@ -1,5 +1,5 @@
-//! The keyspace of a replicated store: its state is a list of revisions, as etcd's API describes them, with transactions, leases and
-//! compaction. It reads and writes nothing, and what it does is told by its requests alone.
+//! The keyspace of a replicated store: its state is a list of revisions, as etcd's API describes them. Puts, deletes and their
+//! revisions can be called. Transactions, leases and the answers to requests are types and definitions so far, without code.
 #![tactic(auto)]
 
 mod answer;

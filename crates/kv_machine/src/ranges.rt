@@ -3,7 +3,8 @@
 ghost use Rattle.std.specs.Prelude.{◌≡◌, List, ◌+◌, ◌<◌, ◌^◌, [], IfOk, take, filter, length, map};
 ghost use Rattle.std.specs.FinMap as keys;
 ghost use Rattle.kv_machine.specs.declared.key_value.KeyValue.{KeyValue};
-ghost use Rattle.kv_machine.specs.Ranges.{key_value, found, is_asked, is_at_least, is_at_most, is_unbounded, is_unordered, is_cut, limited, shown, taken, without_value, counted, response, range, chosen};
+ghost use Rattle.kv_machine.specs.Ranges.{key_value, found, is_asked, is_at_least, is_at_most, is_unbounded, is_unordered, is_cut};
+ghost use Rattle.kv_machine.specs.Ranges.{limited, shown, taken, without_value, counted, response, range, chosen};
 
 use crate::answer::RangeResponse;
 use crate::key_value::{KeyValue, Stored};

@@ -319,7 +319,8 @@ impl Records {
 
     /// A node's state machine has applied entries.
     pub fn execute(&mut self, node: u64, entries: Vec<Entry>) -> Result<(), AllocError>
-        ensures { OnOk result (self.new ≡ record self.old { executed = self.old.executed ++ map (λ e. record { node = node; entry = e }) entries.items }) }
+        ensures { OnOk result (self.new
+            ≡ record self.old { executed = self.old.executed ++ map (λ e. record { node = node; entry = e }) entries.items }) }
     {
         push_executed(node, entries, &mut self.executed)
     }

@@ -64,7 +64,8 @@ fn read_servers(alloc: Global, cursor: &mut Cursor<'_>) -> Result<Servers, Unrea
 
 /// The first voters, behind how many there are.
 fn read_membership(alloc: Global, cursor: &mut Cursor<'_>) -> Result<Membership<u64, ()>, Unread>
-    ensures membership { IfOk result (λ m. m ≡ members_of nat_cmp (record {}) (numbers_at (number_at cursor.old) (behind_numbers 1 cursor.old) ∷ []) []) }
+    ensures membership { IfOk result (λ m.
+        m ≡ members_of nat_cmp (record {}) (numbers_at (number_at cursor.old) (behind_numbers 1 cursor.old) ∷ []) []) }
     ensures rest { OnOk result (cursor.new ≡ behind_numbers (number_at cursor.old + 1) cursor.old) }
 {
     let voters = cursor.numbers()?;

@@ -4,7 +4,8 @@
 //!     torture [SECONDS]     of trouble, half with three voters and half with five; by default 60
 //!
 //! `WACHELPO` names the program; by default `target/release/wachelpo` below the folder of the workspace. `SEED` repeats what is done, `KEEP`
-//! leaves the nodes' folders, with `HARMS` half of the troubles are harms of files, and copies. Exit status: 0 for no violation, 1 for any, 2 if it can't be said.
+//! leaves the nodes' folders, with `HARMS` half of the troubles are harms of files, and copies.
+//! Exit status: 0 for no violation, 1 for any, 2 if it can't be said.
 
 mod client;
 mod cluster;

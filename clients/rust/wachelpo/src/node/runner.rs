@@ -310,8 +310,9 @@ impl<N: Network> Runner<N> {
         self.call(Input::Flushed(position.end))
     }
 
-    /// Tells the service how much time went by: none while a write takes long, for which what it does by the time would only wait. After a break of this thread, as of a process that was stopped, that is a heartbeat's time
-    /// at most: what came meanwhile was only heard now, so a leader would find that nobody is heard any more, and refuse requests.
+    /// Tells the service how much time went by: none while a write takes long, for which what it does by the time would only
+    /// wait. After a break of this thread, as of a process that was stopped, that is a heartbeat's time at most: what came
+    /// meanwhile was only heard now, so a leader would find that nobody is heard any more, and refuse requests.
     fn tick(&mut self) -> Result<(), Error> {
         let now = self.clock.elapsed();
         // (a clock that goes back breaks its promise; then the time goes on from there)
